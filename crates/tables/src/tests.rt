@@ -23,13 +23,12 @@ pub(crate) fn range_end(r: Range) -> usize
     r.index as usize + r.count as usize
 }
 
-// Range k of n starts where the one before it ended, and ends inside a table of `len` entries, the last one at its end.
-pub(crate) fn range_good(r: Range, before: usize, n: usize, len: usize, k: usize) -> bool
-    requires { ⌜ k < n ⌝ }
-    ensures { λ g. ⌜ g ≡ rangeFits r before n len k ⌝ }
+// Range r starts where the one before it ended, and ends inside a table of `len` entries, at its end unless more ranges follow.
+pub(crate) fn range_good(r: Range, before: usize, more: bool, len: usize) -> bool
+    ensures { λ g. ⌜ g ≡ rangeFits r before more len ⌝ }
 {
     let end = r.index as usize + r.count as usize;
-    (r.index as usize == before) & (end <= len) & ((k + 1 < n) | (end == len))
+    (r.index as usize == before) & (end <= len) & (more | (end == len))
 }
 
 pub(crate) fn left_over(n: usize, len: usize) -> Found

@@ -2,16 +2,17 @@
 use Prim.Native.Nat.{ℕ, _+_, _-_, _*_, _≤_, _<_}
 use mathlib.Core.Path.{_≡_}
 use mathlib.Core.List.{List, []}
-use lib.ListN.{length, take, drop}
+use lib.ListN.{length, getD, take, drop}
 use Rattle.rules.specs.declared.Found.{Found}
 use mathlib.Core.Bool.{Bool, _&&_, _||_}
 use lib.Dec.{ltb, leb, eqb}
 use Rattle.words.specs.declared.Range.{Range}
 use Rattle.words.specs.declared.Interval.{Interval}
-use Rattle.rules.specs.Sound.{first, countSum, rangeEnd, endBefore, endsBefore, fragmentsGood, badUnless, mentionGood}
-use Rattle.words.specs.Packed.{intervalAt, intervalCount, fragmentIn}
+use Rattle.rules.specs.Sound.{first, countSum, rangeEnd, endBefore, endsBefore, fragmentsGood, badUnless, mentionGood, safepointGood}
+use Rattle.words.specs.Packed.{intervalAt, intervalCount, fragmentIn, mentionIn}
 use Rattle.tables.specs.declared.Ends.{Ends}
-use Rattle.tables.specs.Given.{mentionTables}
+use Rattle.tables.specs.Given.{mentionTables, safepointTables}
+use Rattle.rules.specs.Accepted.{InRange}
 
 -- range r continues those that end at `before` inside a table of len entries; more ranges follow, or it ends there
 abbrev pub rangeFits : Range → ℕ → Bool → ℕ → Bool
@@ -59,3 +60,17 @@ pub record Passed (limit : ℕ) (ws : List ℕ) (lo hi f : ℕ) : Type 0 where
 -- what the mentions of interval i are found to be
 abbrev pub mentionFind : List ℕ → Interval → Found
 mentionFind ms i = first (λ j. badUnless (mentionGood (mentionTables [] ms) i j) j) (i .mentions .index) (i .mentions .count)
+
+-- the mentions of range q lie in the table, their instructions strictly ascending
+pub record Ascending (ms : List ℕ) (q : Range) : Type 0 where
+  pub inside : rangeEnd q ≤ length ms
+  pub up : (j k : ℕ) → InRange q j → InRange q k → j < k → mentionIn (getD ms j 0) .instruction < mentionIn (getD ms k 0) .instruction
+
+-- every interval has such mentions, and its safepoints in the table
+pub record Placed (is ms ss : List ℕ) : Type 0 where
+  pub mentions : (v : ℕ) → v < intervalCount is → Ascending ms (intervalAt is v .mentions)
+  pub safepoints : (v : ℕ) → v < intervalCount is → rangeEnd (intervalAt is v .safepoints) ≤ length ss
+
+-- what the safepoints of interval i are found to be
+abbrev pub safepointFind : List ℕ → List ℕ → Interval → Found
+safepointFind ms ss i = first (λ j. badUnless (safepointGood (safepointTables [] ms ss) i j) j) (i .safepoints .index) (i .safepoints .count)

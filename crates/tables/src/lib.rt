@@ -5,6 +5,7 @@ mod intervals;
 mod limits;
 mod mentions;
 pub mod read;
+mod safepoints;
 mod tests;
 
 // Where the mentions and the safepoints of an interval end.

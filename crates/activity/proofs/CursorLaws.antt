@@ -4,14 +4,15 @@ use mathlib.Core.List.{List}
 use Prim.Native.Nat.{ℕ, zero, suc, _+_, _-_, _≤_, _<_}
 use native.Mathlib.Omega.{arith}
 use native.Mathlib.Decide.{decLe, decLt, ℕ-discrete}
-use lib.ListN.{length, length-set}
+use lib.ListN.{length, getD, length-set}
 use lib.Seq.{getD-set-same, getD-set-other}
 use borrow.Author.Tests.{lt-ltb, le-ltb}
-use Rattle.words.specs.Packed.{registerAt}
+use Rattle.words.specs.declared.Range.{Range}
+use Rattle.words.specs.Packed.{registerAt, rangeIn}
 use Rattle.rules.specs.Tables.{Tables}
 use Rattle.rules.specs.Accepted.{InRange, Accepted}
 use Rattle.activity.specs.declared.Tracker.{Tracker}
-use Rattle.activity.specs.Fixed.{Fixed, stopOf, lastAt}
+use Rattle.activity.specs.Fixed.{Fixed, Faced, stopOf, lastAt}
 use Rattle.activity.specs.Cursors.{cursor, withActive, withCursor, moved, advancedFrom, advanced, Cursors, Here, Ready, Facing, freshFrom, freshOf, noneActive}
 
 -- accepted tables have sound fixed tables
@@ -191,3 +192,19 @@ fresh-cursors rs fs x =
   where
     at : (r : ℕ) → r < length rs → cursor (freshOf rs) r ≡ registerAt rs r .index
     at r h = fresh-in rs (length rs) 0 noneActive r (omega arith) (omega arith) (omega (arith, x .few))
+
+-- each cursor of the class, with its register's range, is as fixed_position asks
+pub facing-faced : {rs fs : List ℕ} {S first count : ℕ} {t : Tracker} → Facing rs fs S first count t → (r : ℕ) → first ≤ r → r < first + count
+    → (range : Range) → range ≡ rangeIn (getD rs r 0) → Faced fs range (cursor t r) S
+facing-faced {rs} y r a b range e =
+    let h : r < length rs = omega (arith, y .inside) in
+    rw e
+    record {
+      inside = y .fixed .inside r h;
+      low = y .cursors .low r h;
+      high = y .cursors .high r h;
+      ordered = λ f. y .fixed .ordered r f h;
+      ascending = λ f k. y .fixed .ascending r f k h;
+      past = λ f. y .cursors .past r f h;
+      here = y .here .here r a b;
+    }

@@ -28,9 +28,17 @@ pieceIn w0 w1 w2 w3 =
     let r : Record = recordIn w0 w1 in
     record { interval = r .interval; place = placeOf (r .kind) (r .number); start = r .first; end = r .last; mentions = rangeIn w2; safepoints = rangeIn w3 }
 
--- the third and the fourth word of a piece
-abbrev pub tailOf : Piece → List ℕ
-tailOf q = rangeWord (q .mentions) ∷ rangeWord (q .safepoints) ∷ []
+-- the record of a piece, whose fields have room in two words
+pub record Packable (q : Piece) (r : Record) : Type 0 where
+  pub is : r ≡ recordFor q
+  pub kind : r .kind < 4
+  pub interval : r .interval < 4096
+  pub spare : r .spare < 4
+
+-- a piece that was read from four words: its interval has 12 bits
+pub record Unpacked (w0 w1 w2 w3 : ℕ) (r : Piece) : Type 0 where
+  pub is : r ≡ pieceIn w0 w1 w2 w3
+  pub small : r .interval < 4096
 
 -- a home: 0 is unspilled, 65,536 + t is slot t
 unfoldable pub homeIn : ℕ → Home
@@ -39,6 +47,11 @@ homeIn w = choose (eqb (w / 65536) 0) Unspilled (Spilled (w % 65536))
 unfoldable pub homeWord : Home → ℕ
 homeWord Unspilled = 0
 homeWord (Spilled t) = 65536 + t
+
+-- the word of a home, which has 17 bits
+pub record HomePacked (h : Home) (r : ℕ) : Type 0 where
+  pub is : r ≡ homeWord h
+  pub small : r < 131072
 
 -- the four lists of a work area, each as long as the capacity
 pub record Cells : Type 0 where

@@ -1,28 +1,47 @@
 -- The state of `rules` that a work area holds, and when it is fit for the next step (facts for contracts).
-use Prim.Native.Nat.{ℕ, suc, _+_, _*_, _≤_, _<_}
+use Prim.Native.Nat.{ℕ, suc, _+_, _*_, _^_, _≤_, _<_}
 use mathlib.Core.Path.{_≡_}
 use mathlib.Core.List.{List, [], _∷_}
 use lib.ListN.{length, getD, take}
 use Rattle.words.specs.Packed.{intervalCount}
 use Rattle.rules.specs.declared.Piece.{Piece}
+use Rattle.rules.specs.declared.Place.{Place}
 use Rattle.rules.specs.declared.Home.{Home}
 use Rattle.rules.specs.declared.Home.the-variants.{Unspilled, Spilled}
-use Rattle.rules.specs.State.{State, withQueue, piece, recordOfKey}
+use Rattle.rules.specs.State.{State, withQueue, withPlace, piece, recordOfKey}
+use Rattle.rules.specs.Slots.{roundUp}
 use Rattle.queue.specs.Heap.{Ord, sort}
 use Rattle.store.specs.Cells.{Cells, cells}
 use Rattle.store.specs.declared.Counts.{Counts}
 use Rattle.store.specs.declared.Popped.{Popped}
 
 -- the records in use, the queue that the heap holds, the active records, a home for each interval, the slot total
-unfoldable pub stateOf : ℕ → List ℕ → Counts → State
-stateOf cap ws c =
+abbrev pub stateIn : Cells → Counts → State
+stateIn x c =
     record {
-      pieces = take (c .records) (cells cap ws .pieces);
-      queue = sort (take (c .queued) (cells cap ws .heap));
-      active = take (c .active) (cells cap ws .active);
-      homes = take (c .intervals) (cells cap ws .homes);
+      pieces = take (c .records) (x .pieces);
+      queue = sort (take (c .queued) (x .heap));
+      active = take (c .active) (x .active);
+      homes = take (c .intervals) (x .homes);
       total = c .total;
     }
+
+-- counts with one number changed
+abbrev pub withRecords : ℕ → Counts → Counts
+withRecords n c = record { intervals = c .intervals; records = n; queued = c .queued; active = c .active; total = c .total }
+
+abbrev pub withQueued : ℕ → Counts → Counts
+withQueued n c = record { intervals = c .intervals; records = c .records; queued = n; active = c .active; total = c .total }
+
+abbrev pub withActives : ℕ → Counts → Counts
+withActives n c = record { intervals = c .intervals; records = c .records; queued = c .queued; active = n; total = c .total }
+
+abbrev pub withTotal : ℕ → Counts → Counts
+withTotal n c = record { intervals = c .intervals; records = c .records; queued = c .queued; active = c .active; total = n }
+
+-- the state of rules that the area holds
+unfoldable pub stateOf : ℕ → List ℕ → Counts → State
+stateOf cap ws c = stateIn (cells cap ws) c
 
 -- every entry of a list has P
 pub data Each {A : Type 0} (P : A → Type 0) : List A → Type 0 where
@@ -70,6 +89,11 @@ pub record Got (cap : ℕ) (ws : List ℕ) (c : Counts) (k : ℕ) (r : Piece) : 
   pub is : r ≡ piece (stateOf cap ws c) k
   pub owner : r .interval < c .intervals
 
+-- a piece in another place
+pub record PutInto (w : Place) (q r : Piece) : Type 0 where
+  pub is : r ≡ withPlace w q
+  pub same : r .interval ≡ q .interval
+
 -- active record i was read
 pub record GotActive (cap : ℕ) (ws : List ℕ) (c : Counts) (i r : ℕ) : Type 0 where
   pub is : r ≡ getD (stateOf cap ws c .active) i 0
@@ -89,6 +113,17 @@ pub record PoppedAs (cap : ℕ) (ws ws′ : List ℕ) (c : Counts) (r : Popped) 
   pub active : r .counts .active ≡ c .active
   pub intervals : r .counts .intervals ≡ c .intervals
   pub long : length ws′ ≡ length ws
+
+-- virtual register v, of record k, has no slot yet
+pub record Homeless (cap : ℕ) (ws : List ℕ) (c : Counts) (k v : ℕ) : Type 0 where
+  pub owner : v ≡ piece (stateOf cap ws c) k .interval
+  pub within : v < c .intervals
+  pub unspilled : getD (stateOf cap ws c .homes) v Unspilled ≡ Unspilled
+
+-- a total rounded up to a multiple of 2 ^ l
+pub record Rounded (total l r : ℕ) : Type 0 where
+  pub is : r ≡ roundUp total (2 ^ l)
+  pub most : r ≤ 32760
 
 -- what `load` asks: room, and intervals within it
 pub record Loads (cap : ℕ) (is ws : List ℕ) : Type 0 where

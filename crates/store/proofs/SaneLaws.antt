@@ -138,10 +138,3 @@ round-most total c (suc zero) h m = omega arith
 round-most total c (suc (suc zero)) h m = omega arith
 round-most total c (suc (suc (suc zero))) h m = omega arith
 round-most total c (suc (suc (suc (suc l)))) h m = absurd (omega arith)
-
-pub size-most : (l : ℕ) → l < 4 → 2 ^ l ≤ 8
-size-most zero h = omega arith
-size-most (suc zero) h = omega arith
-size-most (suc (suc zero)) h = omega arith
-size-most (suc (suc (suc zero))) h = omega arith
-size-most (suc (suc (suc (suc l)))) h = absurd (omega arith)

@@ -9,17 +9,19 @@ use lib.ListN.{length, getD, set, take, length-take, length-append, length-set}
 use lib.Seq.{length-take-le, take-set-lt, take-set-le, take-suc-set, getD-take}
 use Rattle.rules.specs.declared.Piece.{Piece}
 use Rattle.rules.specs.declared.Place.{Place}
+use Rattle.rules.specs.declared.Place.the-variants.{Slot}
 use Rattle.rules.specs.declared.Home.{Home}
 use Rattle.rules.specs.declared.Home.the-variants.{Unspilled, Spilled}
 use Rattle.rules.specs.State.{State, withPieces, withQueue, withActive, withHomes, withPlace, noPiece, piece, put, key, recordOfKey, insert, enqueue}
+use Rattle.rules.specs.Slots.{roundUp, spillTo}
 use Rattle.queue.specs.Heap.{Ord, sort}
 use Rattle.store.specs.Cells as cells
 use Rattle.store.specs.Cells.{Cells, cells, Becomes, PieceAt, KeyPushed, KeyPopped}
-use Rattle.store.specs.StateOf.{stateIn, stateOf, withRecords, withQueued, withActives, withTotal, Each, spilledIn, Homeless, Rounded, Sane, Ready, After, Got, PutInto, GotActive, PoppedAs}
+use Rattle.store.specs.StateOf.{stateIn, stateOf, withRecords, withQueued, withActives, withTotal, Each, spilledIn, HomeOf, Homeless, Size, Rounded, Sane, Ready, After, Got, PutInto, GotActive, PoppedAs}
 use Rattle.store.specs.declared.Counts.{Counts}
 use Rattle.store.specs.declared.Popped.{Popped}
 use Rattle.store.proofs.CellLaws.{length-pieces, length-heap, length-homes, length-active}
-use Rattle.store.proofs.SaneLaws.{each-at, each-snoc, sane-set, sane-append, sane-enqueue, sane-pop, popped-named, sane-active, sane-home}
+use Rattle.store.proofs.SaneLaws.{each-at, each-snoc, sane-set, sane-append, sane-enqueue, sane-pop, popped-named, sane-active, sane-home, spilled-less, round-most}
 
 -- ---- how many of each there are
 module _ (cap : ℕ) (ws : List ℕ) (c : Counts) where
@@ -192,3 +194,107 @@ module _ (cap : ℕ) (ws ws′ : List ℕ) (c : Counts) where
     where
       is : stateOf cap ws′ (withTotal total c) ≡ withHomes (set (stateOf cap ws c .homes) v (Spilled t)) total (stateOf cap ws c)
       is = unfold stateOf in ap (λ (y : Cells). stateIn y (withTotal total c)) (b .is) ∙ rw (take-set-lt (c .intervals) (cells cap ws .homes) v (Spilled t) h)
+
+-- one state function after another
+pub after-then : (cap : ℕ) (ws ws₁ ws₂ : List ℕ) (c d e : Counts) (s t : State) (m q a m′ q′ a′ : ℕ) → After cap ws ws₁ c d s m q a → After cap ws₁ ws₂ d e t m′ q′ a′
+    → After cap ws ws₂ c e t m′ q′ a′
+after-then cap ws ws₁ ws₂ c d e s t m q a m′ q′ a′ f g =
+    record {
+      is = g .is;
+      ready = g .ready;
+      records = g .records;
+      queued = g .queued;
+      active = g .active;
+      intervals = g .intervals ∙ f .intervals;
+      long = g .long ∙ f .long;
+    }
+
+-- ---- sizes and rounding, case by case
+module _ (total l : ℕ) (m : total ≤ 32760) where
+  pub round-none : l ≡ 0 → Rounded total l total
+  round-none e = record { is = rw e (omega arith); most = m }
+
+  pub round-two : l ≡ 1 → Rounded total l ((total + 1) / 2 * 2)
+  round-two e = record { is = rw e (omega arith); most = omega arith }
+
+  pub round-four : l ≡ 2 → Rounded total l ((total + 3) / 4 * 4)
+  round-four e = record { is = rw e (omega arith); most = omega arith }
+
+  pub round-eight : l ≡ 3 → Rounded total l ((total + 7) / 8 * 8)
+  round-eight e = record { is = rw e (omega arith); most = omega arith }
+
+module _ (l : ℕ) where
+  pub size-one : l ≡ 0 → Size l 1
+  size-one e = record { is = rw e; most = omega arith }
+
+  pub size-two : l ≡ 1 → Size l 2
+  size-two e = record { is = rw e; most = omega arith }
+
+  pub size-four : l ≡ 2 → Size l 4
+  size-four e = record { is = rw e; most = omega arith }
+
+  pub size-eight : l ≡ 3 → Size l 8
+  size-eight e = record { is = rw e; most = omega arith }
+
+-- ---- spills
+module _ (cap : ℕ) (ws : List ℕ) (c : Counts) (k v : ℕ) where
+  total-is : stateOf cap ws c .total ≡ c .total
+  unfolding stateOf
+  total-is = refl
+
+  -- the home at v is virtual register v's
+  home-of : v < c .intervals → getD (cells cap ws .homes) v Unspilled ≡ getD (stateOf cap ws c .homes) v Unspilled
+  unfolding stateOf
+  home-of h = sym (getD-take (c .intervals) (cells cap ws .homes) v Unspilled h)
+
+  pub home-found : (q : Piece) (h : Home) → Got cap ws c k q → v ≡ q .interval → h ≡ getD (cells cap ws .homes) v Unspilled → HomeOf cap ws c k v h
+  home-found q h g e f =
+      record {
+        owner = e ∙ ap (λ (x : Piece). x .interval) (g .is);
+        within = omega (arith, e, g .owner);
+        is = f ∙ home-of (omega (arith, e, g .owner));
+      }
+
+  pub homeless : (h : Home) → HomeOf cap ws c k v h → h ≡ Unspilled → Homeless cap ws c k v
+  homeless h g u = record { owner = g .owner; within = g .within; unspilled = sym (g .is) ∙ u }
+
+  -- 4,095 others at most have a slot
+  pub total-most : Ready cap ws c → Homeless cap ws c k v → c .total ≤ 32760
+  total-most r h =
+      let l : spilledIn (stateOf cap ws c .homes) < c .intervals = rw (homes-are cap ws c r) at (spilled-less (stateOf cap ws c .homes) v (rw (homes-are cap ws c r) (h .within)) (h .unspilled)) in
+      omega (arith, r .sane .slots, r .few, total-is)
+
+  -- the slot and its size are within 8 for each virtual register that has a slot, v too
+  pub total-room : (l t z : ℕ) → Ready cap ws c → l < 4 → Rounded (c .total) l t → Size l z → t + z ≤ 8 * spilledIn (stateOf cap ws c .homes) + 8
+  total-room l t z r h p e =
+      let m : c .total ≤ 8 * spilledIn (stateOf cap ws c .homes) = omega (arith, r .sane .slots, total-is) in
+      omega (arith, p .is, e .most, round-most (c .total) (spilledIn (stateOf cap ws c .homes)) l h m)
+
+  pub first-spilled : (ws₁ ws₂ : List ℕ) (d : Counts) (l t z m q a : ℕ) → Homeless cap ws c k v → Rounded (c .total) l t → Size l z
+      → After cap ws ws₁ c d (withHomes (set (stateOf cap ws c .homes) v (Spilled t)) (t + z) (stateOf cap ws c)) m q a
+      → After cap ws₁ ws₂ d d (put (stateOf cap ws₁ d) k (Slot t)) (d .records) (d .queued) (d .active)
+      → After cap ws ws₂ c d (spillTo (stateOf cap ws c) k (2 ^ l) Unspilled) m q a
+  unfolding spillTo
+  first-spilled ws₁ ws₂ d l t z m q a h p e f g =
+      record {
+        is = g .is ∙ ap (λ (x : State). put x k (Slot t)) (f .is) ∙ rw (h .owner, e .is, p .is ∙ ap (λ (x : ℕ). roundUp x (2 ^ l)) (sym total-is));
+        ready = g .ready;
+        records = f .records;
+        queued = f .queued;
+        active = f .active;
+        intervals = f .intervals;
+        long = g .long ∙ f .long;
+      }
+
+  -- a spill, by the home of record k's virtual register
+  module _ (ws′ : List ℕ) (d : Counts) (z m n a : ℕ) (h : Home) where
+    pub spilled-first : h ≡ Unspilled → After cap ws ws′ c d (spillTo (stateOf cap ws c) k z Unspilled) m n a → After cap ws ws′ c d (spillTo (stateOf cap ws c) k z h) m n a
+    spilled-first u b = rw u b
+
+    pub spilled-again : (t : ℕ) → h ≡ Spilled t → After cap ws ws′ c d (put (stateOf cap ws c) k (Slot t)) m n a → After cap ws ws′ c d (spillTo (stateOf cap ws c) k z h) m n a
+    unfolding spillTo
+    spilled-again t u b = rw u b
+
+    pub spilled-by : HomeOf cap ws c k v h → After cap ws ws′ c d (spillTo (stateOf cap ws c) k z h) m n a
+        → After cap ws ws′ c d (spillTo (stateOf cap ws c) k z (getD (stateOf cap ws c .homes) (piece (stateOf cap ws c) k .interval) Unspilled)) m n a
+    spilled-by g b = rw (← g .owner, ← g .is) b

@@ -114,11 +114,22 @@ pub record PoppedAs (cap : ℕ) (ws ws′ : List ℕ) (c : Counts) (r : Popped) 
   pub intervals : r .counts .intervals ≡ c .intervals
   pub long : length ws′ ≡ length ws
 
+-- virtual register v, of record k, has this home
+pub record HomeOf (cap : ℕ) (ws : List ℕ) (c : Counts) (k v : ℕ) (h : Home) : Type 0 where
+  pub owner : v ≡ piece (stateOf cap ws c) k .interval
+  pub within : v < c .intervals
+  pub is : h ≡ getD (stateOf cap ws c .homes) v Unspilled
+
 -- virtual register v, of record k, has no slot yet
 pub record Homeless (cap : ℕ) (ws : List ℕ) (c : Counts) (k v : ℕ) : Type 0 where
   pub owner : v ≡ piece (stateOf cap ws c) k .interval
   pub within : v < c .intervals
   pub unspilled : getD (stateOf cap ws c .homes) v Unspilled ≡ Unspilled
+
+-- a slot size by its log2
+pub record Size (l r : ℕ) : Type 0 where
+  pub is : r ≡ 2 ^ l
+  pub most : r ≤ 8
 
 -- a total rounded up to a multiple of 2 ^ l
 pub record Rounded (total l r : ℕ) : Type 0 where

@@ -7,15 +7,18 @@ use native.Mathlib.Omega.{arith}
 use lib.ListN.{length, getD}
 use Rattle.words.specs.Field.{bits}
 use Rattle.words.specs.Packed.{part}
+use Rattle.words.specs.declared.Spot.{Spot}
 use Rattle.words.specs.declared.Spot.the-variants.{Nothing, Point}
 use Rattle.rules.specs.declared.Answer.the-variants.{NoRecord}
 use Rattle.rules.specs.declared.Home.the-variants.{Unspilled}
 use Rattle.rules.specs.declared.Piece.{Piece}
 use Rattle.rules.specs.declared.Strategy.{Strategy}
+use Rattle.rules.specs.declared.Strategy.the-variants.{From}
 use Rattle.rules.specs.Uses.{mentionPoints, nextUse, lastUse}
 use Rattle.rules.specs.State.{Given, State, Outcome, goes, stops, goOn, piece, withPieces}
 use Rattle.rules.specs.Slots.{spill, spillTo}
 use Rattle.rules.specs.Split.{splitPieces, newRecord, split, splitAndQueue, splitIfAny, pick, queueTail, splitAndSpillBy, splitAndSpill}
+use Rattle.uses.specs.Runs.{Rising}
 use Rattle.store.specs.declared.Counts.{Counts}
 use Rattle.store.specs.StateOf.{stateOf, Ready, After, Got}
 use Rattle.split.specs.declared.Turn.{Turn}
@@ -23,7 +26,7 @@ use Rattle.split.specs.declared.Turn.the-variants.{On, Off}
 use Rattle.split.specs.Fit.{Fit}
 use Rattle.split.specs.Turns.{cutting, outcomeOf, Held, HeldOf, Spilling, Went, Turned, on, off, Does, Parted, Spilt}
 use Rattle.split.proofs.FitLaws.{fit-spill}
-use Rattle.split.proofs.SplitLaws.{records-are, split-room, split-full}
+use Rattle.split.proofs.SplitLaws.{records-are, split-room, split-full, got-rising}
 
 -- what a turn leaves, seen from counts before
 pub further : (cap : ℕ) (ms ss ws : List ℕ) (c e : Counts) (r : Turn) → c .records ≤ e .records → e .intervals ≡ c .intervals
@@ -48,16 +51,21 @@ module _ (cap : ℕ) (ms ss : List ℕ) where
       record { meets = e; turned = on c (record { ready = h .ready; fit = h .fit; records = omega arith; intervals = refl; slack = omega arith }); long = refl }
 
   -- no use follows; or the spilled record is split there
-  pub tail-none : (y : Strategy) (is ws : List ℕ) (c : Counts) (k p : ℕ) (q : Piece) → Held cap ms ss ws c k → Got cap ws c k q → nextUse p (mentionPoints (part (q .mentions) ms)) ≡ Nothing
-      → Does cap ms ss ws ws c (On c) (queueTail (cutting y is ms ss cap) (stateOf cap ws c) k p)
+  pub tail-none : (y : Strategy) (is ws : List ℕ) (c : Counts) (k p : ℕ) (q : Piece) (x : Spot) → Held cap ms ss ws c k → Got cap ws c k q
+      → x ≡ nextUse p (mentionPoints (part (q .mentions) ms)) → x ≡ Nothing → Does cap ms ss ws ws c (On c) (queueTail (cutting y is ms ss cap) (stateOf cap ws c) k p)
   unfolding queueTail splitIfAny
-  tail-none y is ws c k p q h g e = stays ws c k _ h (rw (← (g .is), e))
+  tail-none y is ws c k p q x h g e n = let e′ : nextUse p (mentionPoints (part (q .mentions) ms)) ≡ Nothing = sym e ∙ n in stays ws c k _ h (rw (← (g .is), e′))
 
-  pub tail-some : (y : Strategy) (is ws ws′ : List ℕ) (c : Counts) (k p n : ℕ) (q : Piece) (r : Turn) → Got cap ws c k q → nextUse p (mentionPoints (part (q .mentions) ms)) ≡ Point n
-      → Does cap ms ss ws ws′ c r (splitAndQueue (cutting y is ms ss cap) (stateOf cap ws c) k n)
+  pub tail-some : (y : Strategy) (is ws ws′ : List ℕ) (c : Counts) (k p n : ℕ) (q : Piece) (x : Spot) (r : Turn) → Got cap ws c k q
+      → x ≡ nextUse p (mentionPoints (part (q .mentions) ms)) → x ≡ Point n → Does cap ms ss ws ws′ c r (splitAndQueue (cutting y is ms ss cap) (stateOf cap ws c) k n)
       → Does cap ms ss ws ws′ c r (queueTail (cutting y is ms ss cap) (stateOf cap ws c) k p)
   unfolding queueTail splitIfAny
-  tail-some y is ws ws′ c k p n q r g e d = record { meets = rw (← (g .is), e) (d .meets); turned = d .turned; long = d .long }
+  tail-some y is ws ws′ c k p n q x r g e m d =
+      let e′ : nextUse p (mentionPoints (part (q .mentions) ms)) ≡ Point n = sym e ∙ m in record { meets = rw (← (g .is), e′) (d .meets); turned = d .turned; long = d .long }
+
+  -- the mentions of the piece that was read can be walked
+  pub of-rising : (is ws : List ℕ) (c : Counts) (k : ℕ) (q : Piece) → HeldOf cap is ms ss ws c k → Got cap ws c k q → Rising (q .mentions) ms
+  of-rising is ws c k q h g = got-rising cap ms ss ws c k q (record { ready = h .ready; fit = h .fit; inside = h .inside }) g
 
   -- the area is held after a spill
   pub spilt-held : (is ws ws′ : List ℕ) (c d : Counts) (k j : ℕ) → HeldOf cap is ms ss ws c k → Spilt cap is ws ws′ c d k → j < c .records → Held cap ms ss ws′ d j
@@ -68,10 +76,39 @@ module _ (cap : ℕ) (ms ss : List ℕ) where
         inside = omega (arith, s .after .records);
       }
 
+  pub spilt-same : (is ws ws′ : List ℕ) (c d : Counts) (k : ℕ) → HeldOf cap is ms ss ws c k → Spilt cap is ws ws′ c d k → Held cap ms ss ws′ d k
+  spilt-same is ws ws′ c d k h s = spilt-held is ws ws′ c d k k h s (h .inside)
+
   -- .. and after a split, with its new record
-  pub parted-held : (is ws ws′ : List ℕ) (c d : Counts) (k p j : ℕ) → HeldOf cap is ms ss ws c k → Parted cap ms ss ws ws′ c d k p → j ≤ c .records → HeldOf cap is ms ss ws′ d j
-  parted-held is ws ws′ c d k p j h s l =
+  pub parted-held : (is ws ws′ : List ℕ) (c d : Counts) (k p new : ℕ) → HeldOf cap is ms ss ws c k → new ≡ c .records → Parted cap ms ss ws ws′ c d k p → HeldOf cap is ms ss ws′ d new
+  parted-held is ws ws′ c d k p new h n s =
       record { ready = s .after .ready; fit = s .fit; inside = omega (arith, s .after .records); rows = s .after .intervals ∙ h .rows }
+
+  -- the strategy and the intervals have no part in what is queued
+  if-any : (y : Strategy) (is : List ℕ) (s : State) (k : ℕ) (x : Spot) → splitIfAny (cutting y is ms ss cap) s k x ≡ splitIfAny (cutting From [] ms ss cap) s k x
+  unfolding splitIfAny splitAndQueue split
+  if-any y is s k Nothing = refl
+  if-any y is s k (Point n) = refl
+
+  tail-any : (y : Strategy) (is : List ℕ) (s : State) (k p : ℕ) → queueTail (cutting y is ms ss cap) s k p ≡ queueTail (cutting From [] ms ss cap) s k p
+  unfolding queueTail
+  tail-any y is s k p = if-any y is s k _
+
+  -- nor the strategy in a spill
+  spill-any : (y : Strategy) (is : List ℕ) (s : State) (k : ℕ) → spill (cutting y is ms ss cap) s k ≡ spill (cutting From is [] [] cap) s k
+  unfolding spill
+  spill-any y is s k = refl
+
+  -- the record is spilled, then its tail queued
+  pub tail-spilt : (is ws ws₁ ws₂ : List ℕ) (c e : Counts) (k p : ℕ) (r : Turn) → Spilt cap is ws ws₁ c e k
+      → Does cap ms ss ws₁ ws₂ e r (queueTail (cutting From [] ms ss cap) (stateOf cap ws₁ e) k p)
+      → Does cap ms ss ws ws₂ c r (queueTail (cutting From is ms ss cap) (spill (cutting From is ms ss cap) (stateOf cap ws c) k) k p)
+  tail-spilt is ws ws₁ ws₂ c e k p r s b =
+      record {
+        meets = rw (tail-any From is, spill-any From is, ← (s .after .is)) (b .meets);
+        turned = further cap ms ss ws₂ c e r (omega (arith, s .after .records)) (s .after .intervals) (omega (arith, s .after)) (b .turned);
+        long = b .long ∙ s .after .long;
+      }
 
   module _ (y : Strategy) (is ws : List ℕ) (c : Counts) (k p : ℕ) where
     -- 10: there is no record for the child
@@ -86,36 +123,34 @@ module _ (cap : ℕ) (ms ss : List ℕ) where
         }
 
     -- the child is spilled, and its tail queued
-    pub after-last : (u at new : ℕ) (ws₁ ws₂ ws₃ : List ℕ) (d e : Counts) (r : Turn) → HeldOf cap is ms ss ws c k → c .records < cap → new ≡ c .records
-        → at ≡ pick y (min (u + 1) p) p → Parted cap ms ss ws ws₁ c d k at → Spilt cap is ws₁ ws₂ d e new
-        → Does cap ms ss ws₂ ws₃ e r (queueTail (cutting y is ms ss cap) (stateOf cap ws₂ e) new p)
-        → Does cap ms ss ws ws₃ c r (splitAndSpillBy (cutting y is ms ss cap) (stateOf cap ws c) k p (Point u))
-    unfolding splitAndSpillBy spill
-    after-last u at new ws₁ ws₂ ws₃ d e r h room n a s t b =
+    pub after-last : (u from at new : ℕ) (ws₁ ws₂ : List ℕ) (d : Counts) (r : Turn) → HeldOf cap is ms ss ws c k → c .records < cap → new ≡ c .records
+        → from ≡ min (u + 1) p → at ≡ pick y from p → Parted cap ms ss ws ws₁ c d k at
+        → Does cap ms ss ws₁ ws₂ d r (queueTail (cutting From is ms ss cap) (spill (cutting From is ms ss cap) (stateOf cap ws₁ d) new) new p)
+        → Does cap ms ss ws ws₂ c r (splitAndSpillBy (cutting y is ms ss cap) (stateOf cap ws c) k p (Point u))
+    unfolding splitAndSpillBy
+    after-last u from at new ws₁ ws₂ d r h room n f a s b =
         record {
-          meets = b .meets ∙ sym (rw (split-room (cutting y is ms ss cap) (stateOf cap ws c) k (pick y (min (u + 1) p) p) (rw records room), t .after .is, s .after .is, n, a, records));
-          turned = further cap ms ss ws₃ c e r (omega (arith, s .after .records, t .after .records)) (t .after .intervals ∙ s .after .intervals) (omega (arith, s .after, t .after)) (b .turned);
-          long = b .long ∙ t .after .long ∙ s .after .long;
+          meets = b .meets ∙ rw (tail-any From is, spill-any From is, s .after .is, n, a, f) (sym (rw (split-room (cutting y is ms ss cap) (stateOf cap ws c) k (pick y (min (u + 1) p) p) (rw records room), tail-any y is, spill-any y is, records)));
+          turned = further cap ms ss ws₂ c d r (omega (arith, s .after .records)) (s .after .intervals) (omega (arith, s .after)) (b .turned);
+          long = b .long ∙ s .after .long;
         }
       where
         records : length (stateOf cap ws c .pieces) ≡ c .records
         records = records-are cap ws c (h .ready)
 
     -- a last use was found: what is done by it is split-and-spill
-    pub last-some : (u : ℕ) (ws′ : List ℕ) (q : Piece) (r : Turn) → Got cap ws c k q → lastUse p (mentionPoints (part (q .mentions) ms)) ≡ Point u
+    pub last-some : (u : ℕ) (ws′ : List ℕ) (q : Piece) (x : Spot) (r : Turn) → Got cap ws c k q → x ≡ lastUse p (mentionPoints (part (q .mentions) ms)) → x ≡ Point u
         → Does cap ms ss ws ws′ c r (splitAndSpillBy (cutting y is ms ss cap) (stateOf cap ws c) k p (Point u))
         → Does cap ms ss ws ws′ c r (splitAndSpill (cutting y is ms ss cap) (stateOf cap ws c) k p)
     unfolding splitAndSpill
-    last-some u ws′ q r g e d = record { meets = rw (← (g .is), e) (d .meets); turned = d .turned; long = d .long }
+    last-some u ws′ q x r g e m d =
+        let e′ : lastUse p (mentionPoints (part (q .mentions) ms)) ≡ Point u = sym e ∙ m in record { meets = rw (← (g .is), e′) (d .meets); turned = d .turned; long = d .long }
 
     -- none: the piece itself is spilled, and its tail queued
-    pub last-none : (ws₁ ws₂ : List ℕ) (q : Piece) (e : Counts) (r : Turn) → Got cap ws c k q → lastUse p (mentionPoints (part (q .mentions) ms)) ≡ Nothing
-        → Spilt cap is ws ws₁ c e k → Does cap ms ss ws₁ ws₂ e r (queueTail (cutting y is ms ss cap) (stateOf cap ws₁ e) k p)
-        → Does cap ms ss ws ws₂ c r (splitAndSpill (cutting y is ms ss cap) (stateOf cap ws c) k p)
-    unfolding splitAndSpill splitAndSpillBy spill
-    last-none ws₁ ws₂ q e r g n s b =
-        record {
-          meets = b .meets ∙ sym (rw (← (g .is), n, s .after .is));
-          turned = further cap ms ss ws₂ c e r (omega (arith, s .after .records)) (s .after .intervals) (omega (arith, s .after)) (b .turned);
-          long = b .long ∙ s .after .long;
-        }
+    pub last-none : (ws′ : List ℕ) (q : Piece) (x : Spot) (r : Turn) → Got cap ws c k q → x ≡ lastUse p (mentionPoints (part (q .mentions) ms)) → x ≡ Nothing
+        → Does cap ms ss ws ws′ c r (queueTail (cutting From is ms ss cap) (spill (cutting From is ms ss cap) (stateOf cap ws c) k) k p)
+        → Does cap ms ss ws ws′ c r (splitAndSpill (cutting y is ms ss cap) (stateOf cap ws c) k p)
+    unfolding splitAndSpill splitAndSpillBy
+    last-none ws′ q x r g f n b =
+        let f′ : lastUse p (mentionPoints (part (q .mentions) ms)) ≡ Nothing = sym f ∙ n in
+        record { meets = rw (← (g .is), f′, tail-any y is, spill-any y is) (rw (tail-any From is, spill-any From is) at (b .meets)); turned = b .turned; long = b .long }

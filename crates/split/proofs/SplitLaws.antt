@@ -16,7 +16,7 @@ use Rattle.rules.specs.declared.Piece.{Piece}
 use Rattle.rules.specs.declared.Strategy.{Strategy}
 use Rattle.rules.specs.State.{Given, State, Outcome, goes, stops, goOn, noPiece, piece, withPieces, enqueue}
 use Rattle.rules.specs.Split.{parent, child, splitPieces, newRecord, split, splitAndQueue}
-use Rattle.uses.specs.Runs.{Orderly}
+use Rattle.uses.specs.Runs.{Rising, Orderly}
 use Rattle.uses.specs.Cuts.{Cut}
 use Rattle.uses.specs.declared.Halves.{Halves}
 use Rattle.store.specs.declared.Counts.{Counts}
@@ -46,7 +46,11 @@ module _ (cap : ℕ) (ms ss ws : List ℕ) (c : Counts) (k : ℕ) where
   pub got-fits : (q : Piece) → Held cap ms ss ws c k → Got cap ws c k q → PieceFits ms ss q
   got-fits q h g = rw (g .is) (h .fit .each k (rw (records-are cap ws c (h .ready)) (h .inside)))
 
-  -- .. so that it can be cut
+  -- .. so that its mentions can be walked
+  pub got-rising : (q : Piece) → Held cap ms ss ws c k → Got cap ws c k q → Rising (q .mentions) ms
+  got-rising q h g = got-fits q h g .mentions
+
+  -- .. and it can be cut
   pub got-orderly : (q : Piece) → Held cap ms ss ws c k → Got cap ws c k q → Orderly q ms ss
   got-orderly q h g = record { mentions = got-fits q h g .mentions; safepoints = got-fits q h g .safepoints }
 

@@ -2,6 +2,7 @@
 use rules::Answer;
 use store::Counts;
 
+pub mod spills;
 pub mod splits;
 
 // How a change of the work area ends: the run goes on with these counts, or is refused.

@@ -1,0 +1,4 @@
+-- The laws of the fixed positions, of the cursors, and of the tracker's loops.
+pub mod FixedLaws
+pub mod CursorLaws
+pub mod UpdateLaws

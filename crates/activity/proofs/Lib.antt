@@ -2,3 +2,4 @@
 pub mod FixedLaws
 pub mod CursorLaws
 pub mod UpdateLaws
+pub mod EndedLaws

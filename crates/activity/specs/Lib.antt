@@ -1,3 +1,4 @@
--- The activity tracker: its cursors, and the position that the fragments of a register give.
+-- The activity tracker: the active records, its cursors, and the position that the fragments of a register give.
 pub mod Fixed
 pub mod Cursors
+pub mod Ended

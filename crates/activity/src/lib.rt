@@ -1,6 +1,7 @@
 // The activity tracker: how many records are active, and for each register a cursor into its fragments, before which all end before the last start. Cursors only rise, so that of a register's fragments only the one at the cursor is ever looked at.
 use words::read;
 
+pub mod ended;
 pub mod fixed;
 
 ghost use mathlib.Core.Path.{_≡_};

@@ -1,0 +1,3 @@
+-- The laws behind the rules' tests.
+pub mod EntriesLaws
+pub mod OrderLaws

@@ -1,0 +1,4 @@
+-- What the rules' tests say, and the facts that they hand to one another.
+pub mod Says
+pub mod Entries
+pub mod Order

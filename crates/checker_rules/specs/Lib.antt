@@ -2,3 +2,5 @@
 pub mod Says
 pub mod Entries
 pub mod Order
+pub mod Decides
+pub mod Tiles

@@ -3,6 +3,7 @@
 // Rules 1 and 4 walk all records in one order, by first point (`order`), each with a small array of what comes next. The others look at one record at a time, in tables that ascend.
 pub mod entries;
 pub mod order;
+pub mod rule1;
 
 // Whose turn it is in the order: a record, or nobody's any more.
 pub enum Turn {

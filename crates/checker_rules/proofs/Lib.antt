@@ -4,3 +4,7 @@ pub mod SaysLaws
 pub mod OrderLaws
 pub mod BridgeLaws
 pub mod TilesLaws
+pub mod UsableLaws
+pub mod LanesLaws
+pub mod FixedLaws
+pub mod HousedLaws

@@ -4,3 +4,7 @@ pub mod Entries
 pub mod Order
 pub mod Decides
 pub mod Tiles
+pub mod Usable
+pub mod Lanes
+pub mod Fixed
+pub mod Housed

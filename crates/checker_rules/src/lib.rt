@@ -4,6 +4,10 @@
 pub mod entries;
 pub mod order;
 pub mod rule1;
+pub mod rule2;
+pub mod rule3;
+pub mod rule4;
+pub mod rule5;
 
 // Whose turn it is in the order: a record, or nobody's any more.
 pub enum Turn {

@@ -88,6 +88,19 @@ pub fn classify(case: &Case, ours: &Answer) -> Kind {
     }
 }
 
+/// What document 01 would answer, by the module with both lines patched: a stand-in for the port
+/// until its archive is there. A debug assertion is taken for 13.
+pub fn module_alone(case: &Case) -> Answer {
+    if let Some(answer) = sound::refusal(case) {
+        return answer;
+    }
+    let limit = capacity(case.room().result);
+    match oracle_wide::assign(case, limit).ending {
+        Ending::Done(answer) | Ending::Error(answer) | Ending::Full(answer) => answer,
+        Ending::Panicked { record, .. } => Answer::refused(FIXED_CLASH, record),
+    }
+}
+
 /// Accepted tables: 1 and 10 to 13.
 fn accepted(case: &Case, ours: &Answer) -> Kind {
     let limit = capacity(case.room().result);
@@ -129,9 +142,19 @@ fn wide(ours: &Answer, by_identity: &Verdict, by_size: &Verdict) -> Kind {
     }
 }
 
+/// What the module's debug assertions say where a piece would be empty.
+const EMPTY_PIECE: [&str; 2] = [
+    "assertion failed: parent_start <= parent_end",
+    "trying to split unit fragment",
+];
+
 fn fixed_clash(case: &Case, ours: &Answer, by_identity: &Verdict) -> Kind {
     match &by_identity.ending {
-        Ending::Panicked { record, .. } if *record == ours.place => Kind::FixedClash(release(case)),
+        Ending::Panicked { record, why }
+            if *record == ours.place && EMPTY_PIECE.contains(&why.as_str()) =>
+        {
+            Kind::FixedClash(release(case))
+        }
         other => unlisted(&format!("13, but the module gives {other:?}")),
     }
 }

@@ -266,10 +266,11 @@ fn panicked(thrown: Box<dyn std::any::Any + Send>, popped: u32) -> Ending {
 
 /// Runs the module on a case, with room for `limit` records. A panic is caught.
 pub fn assign(case: &Case, limit: usize) -> Verdict {
-    watch::begin(limit);
     let run = || {
         let prepared = Prepared::new(case);
-        prepared.run(prepared.input())
+        let input = prepared.input();
+        watch::begin(limit, input.0.virtuals.iter().map(|int| int.start.bits()));
+        prepared.run(input)
     };
     let caught = std::panic::catch_unwind(std::panic::AssertUnwindSafe(run));
     let (popped, tie) = watch::end();

@@ -160,6 +160,12 @@ impl InstPoint {
         InstPoint { bits: u32::MAX }
     }
 
+    /// The whole word: points compare as their words do.
+    #[inline(always)]
+    pub(crate) fn bits(self) -> u32 {
+        self.bits
+    }
+
     #[inline(always)]
     pub(crate) fn iix(self) -> InstIx {
         InstIx::new(self.bits >> SIDE_BITS)

@@ -252,12 +252,8 @@ pub(crate) struct Intervals {
 impl Intervals {
     #[inline(always)]
     pub(crate) fn get(&self, id: IntId) -> &VirtualInterval {
-        let interval = &self.virtuals[id.0];
-        watch::got(
-            id.0,
-            interval.start.iix().get() * 4 + interval.start.pt() as u32,
-        );
-        interval
+        watch::got(id.0);
+        &self.virtuals[id.0]
     }
 
     #[inline(always)]
@@ -271,7 +267,10 @@ impl Intervals {
 
     pub(crate) fn push_interval(&mut self, interval: VirtualInterval) {
         debug_assert!(interval.id.0 == self.virtuals.len());
-        watch::pushing(self.virtuals.len(), interval.parent.map(|parent| parent.0));
+        watch::pushing(
+            interval.start.bits(),
+            interval.parent.map(|parent| parent.0),
+        );
         self.virtuals.push(interval);
     }
 
@@ -280,6 +279,7 @@ impl Intervals {
     }
 
     pub(crate) fn set_spill(&mut self, id: IntId, slot: SpillSlot) {
+        watch::spilled(id.0);
         self.virtuals[id.0].location = Location::Stack(slot);
     }
 

@@ -1,41 +1,69 @@
 //! What the harness sees of a run: which record was popped, whether starts tied, and the room.
 //!
 //! The module never says these. It reads a popped record through `Intervals::get` and then asks
-//! `Location::is_none`, which it asks nowhere else; and each endless run splits for ever.
+//! `Location::is_none`, which it asks nowhere else. A record waits in the queue from the time it is
+//! made until it is popped; those that a split spills are never queued. Each endless run splits
+//! for ever.
 
 #[cfg(feature = "watch")]
 mod seen {
-    use std::cell::Cell;
+    use std::cell::RefCell;
+    use std::collections::BTreeMap;
 
-    #[derive(Clone, Copy)]
     pub(super) struct Seen {
-        pub(super) limit: usize,
         pub(super) got: usize,
-        pub(super) got_start: u32,
         pub(super) popped: usize,
-        pub(super) popped_start: Option<u32>,
         pub(super) tie: bool,
+        limit: usize,
+        /// The start of each record, while it waits.
+        starts: Vec<Option<u32>>,
+        /// How many wait at each start.
+        waiting: BTreeMap<u32, usize>,
     }
 
-    pub(super) const NOTHING: Seen = Seen {
-        limit: 0,
-        got: 0,
-        got_start: 0,
-        popped: 0,
-        popped_start: None,
-        tie: false,
-    };
+    impl Seen {
+        const fn new(limit: usize) -> Self {
+            Seen {
+                got: 0,
+                popped: 0,
+                tie: false,
+                limit,
+                starts: Vec::new(),
+                waiting: BTreeMap::new(),
+            }
+        }
+
+        pub(super) fn clear(&mut self, limit: usize) {
+            *self = Seen::new(limit);
+        }
+
+        /// A new record waits.
+        pub(super) fn add(&mut self, start: u32) {
+            self.starts.push(Some(start));
+            *self.waiting.entry(start).or_insert(0) += 1;
+        }
+
+        /// A record waits no longer. True where another waits at its start.
+        pub(super) fn remove(&mut self, record: usize) -> bool {
+            let Some(start) = self.starts[record].take() else {
+                return false;
+            };
+            let count = self.waiting.entry(start).or_insert(1);
+            *count -= 1;
+            *count > 0
+        }
+
+        pub(super) fn is_over_limit(&self) -> bool {
+            self.starts.len() > self.limit
+        }
+    }
 
     thread_local! {
-        pub(super) static SEEN: Cell<Seen> = const { Cell::new(NOTHING) };
+        static SEEN: RefCell<Seen> = const { RefCell::new(Seen::new(0)) };
     }
 
-    pub(super) fn change(f: impl FnOnce(&mut Seen)) {
-        SEEN.with(|cell| {
-            let mut seen = cell.get();
-            f(&mut seen);
-            cell.set(seen);
-        });
+    pub(super) fn with<T>(f: impl FnOnce(&mut Seen) -> T) -> T {
+        SEEN.with(|cell| f(&mut cell.borrow_mut()))
     }
 }
 
@@ -44,54 +72,62 @@ pub(crate) struct Full {
     pub(crate) parent: usize,
 }
 
-/// A run begins, with room for so many records.
-pub(crate) fn begin(_limit: usize) {
+/// A run begins, with room for so many records, on records with these starts.
+pub(crate) fn begin(_limit: usize, _starts: impl Iterator<Item = u32>) {
     #[cfg(feature = "watch")]
-    seen::SEEN.with(|cell| {
-        cell.set(seen::Seen {
-            limit: _limit,
-            ..seen::NOTHING
-        })
+    seen::with(|s| {
+        s.clear(_limit);
+        _starts.for_each(|start| s.add(start));
     });
 }
 
 /// `Intervals::get` was asked for a record.
 #[inline(always)]
-pub(crate) fn got(_record: usize, _start: u32) {
+pub(crate) fn got(_record: usize) {
     #[cfg(feature = "watch")]
-    seen::change(|s| {
-        s.got = _record;
-        s.got_start = _start;
-    });
+    seen::with(|s| s.got = _record);
 }
 
-/// The record that was got last has just been popped. No child starts where its step started, so
-/// two pops at one start mean that both were queued at the first.
+/// The record that was got last has just been popped. Its start ties if another waits with it.
 #[inline(always)]
 pub(crate) fn popped() {
     #[cfg(feature = "watch")]
-    seen::change(|s| {
-        s.tie |= s.popped_start == Some(s.got_start);
+    seen::with(|s| {
         s.popped = s.got;
-        s.popped_start = Some(s.got_start);
+        s.tie |= s.remove(s.got);
     });
 }
 
-/// A record is to be appended to `count` others.
+/// A record is spilled, and does not wait.
 #[inline(always)]
-pub(crate) fn pushing(_count: usize, _parent: Option<usize>) {
+pub(crate) fn spilled(_record: usize) {
     #[cfg(feature = "watch")]
-    if _count >= seen::SEEN.with(|cell| cell.get().limit) {
-        std::panic::panic_any(Full {
-            parent: _parent.unwrap_or(0),
+    seen::with(|s| {
+        s.remove(_record);
+    });
+}
+
+/// A record is to be appended to the others.
+#[inline(always)]
+pub(crate) fn pushing(_start: u32, _parent: Option<usize>) {
+    #[cfg(feature = "watch")]
+    {
+        let full = seen::with(|s| {
+            s.add(_start);
+            s.is_over_limit()
         });
+        if full {
+            std::panic::panic_any(Full {
+                parent: _parent.unwrap_or(0),
+            });
+        }
     }
 }
 
 /// The record popped last, and whether starts tied.
 pub(crate) fn end() -> (usize, bool) {
     #[cfg(feature = "watch")]
-    return seen::SEEN.with(|cell| (cell.get().popped, cell.get().tie));
+    return seen::with(|s| (s.popped, s.tie));
     #[cfg(not(feature = "watch"))]
     (0, false)
 }

@@ -3,6 +3,7 @@
 
 pub mod answer;
 pub mod case;
+pub mod generate;
 pub mod rng;
 pub mod sound;
 pub mod text;

@@ -92,43 +92,50 @@ fn patched(file: &Path) -> PathBuf {
     copy
 }
 
-/// Compiles smallvec, log and rustc-hash as Debian installs them, if all three are there.
+/// Compiles smallvec, log and rustc-hash as Debian installs them, with what log leans on, if all
+/// are there.
 fn use_debian_crates() {
     println!("cargo:rerun-if-env-changed={REGISTRY_VARIABLE}");
     let registry = env::var_os(REGISTRY_VARIABLE).unwrap_or_else(|| REGISTRY.into());
     let find = |name: &str| find_crate(Path::new(&registry), name);
-    let (Some(smallvec), Some(log), Some(hash)) =
-        (find("smallvec"), find("log"), find("rustc-hash"))
-    else {
+    let (Some(smallvec), Some(cfg_if), Some(log), Some(hash)) = (
+        find("smallvec-1"),
+        find("cfg-if-1"),
+        find("log-0.4"),
+        find("rustc-hash-1"),
+    ) else {
         return;
     };
     compile(&smallvec, "smallvec", "2018", &[]);
-    compile(&log, "log", "2015", &["atomic_cas", "has_atomics"]);
-    compile(&hash, "rustc_hash", "2015", &["feature=\"std\""]);
+    compile(&cfg_if, "cfg_if", "2018", &[]);
+    let cfg_if = format!("cfg_if={}", out_dir().join("libcfg_if.rlib").display());
+    let atomics = [
+        "--cfg",
+        "atomic_cas",
+        "--cfg",
+        "has_atomics",
+        "--extern",
+        &cfg_if,
+    ];
+    compile(&log, "log", "2015", &atomics);
+    compile(&hash, "rustc_hash", "2015", &["--cfg", "feature=\"std\""]);
     println!("cargo:rustc-link-search=all={}", out_dir().display());
     println!("cargo:rustc-cfg=debian_crates");
 }
 
-/// The folder NAME-VERSION of a crate.
-fn find_crate(registry: &Path, name: &str) -> Option<PathBuf> {
+/// The folder of a crate whose name and version begin so.
+fn find_crate(registry: &Path, begins: &str) -> Option<PathBuf> {
     let entries = fs::read_dir(registry).ok()?;
-    entries
-        .filter_map(|e| e.ok())
-        .map(|e| e.path())
-        .find(|path| {
-            let folder = path
-                .file_name()
-                .unwrap_or_default()
-                .to_string_lossy()
-                .into_owned();
-            let version = folder
-                .strip_prefix(name)
-                .and_then(|rest| rest.strip_prefix('-'));
-            version.is_some_and(|v| v.starts_with(|c: char| c.is_ascii_digit()))
-        })
+    let paths = entries
+        .filter_map(|entry| entry.ok())
+        .map(|entry| entry.path());
+    let name = |path: &PathBuf| path.file_name().map(|n| n.to_string_lossy().into_owned());
+    paths
+        .filter(|path| name(path).is_some_and(|n| n.starts_with(begins)))
+        .max()
 }
 
-fn compile(folder: &Path, name: &str, edition: &str, cfgs: &[&str]) {
+fn compile(folder: &Path, name: &str, edition: &str, more: &[&str]) {
     let mut rustc = Command::new(env::var_os("RUSTC").unwrap());
     rustc.args([
         "--crate-type",
@@ -139,12 +146,13 @@ fn compile(folder: &Path, name: &str, edition: &str, cfgs: &[&str]) {
         edition,
     ]);
     rustc
-        .args(["-C", "opt-level=3", "--cap-lints", "allow", "--out-dir"])
-        .arg(out_dir());
-    for cfg in cfgs {
-        rustc.args(["--cfg", cfg]);
-    }
-    let done = rustc.arg(folder.join("src/lib.rs")).status().unwrap();
+        .args(["-C", "opt-level=3", "--cap-lints", "allow"])
+        .args(more);
+    rustc
+        .arg("--out-dir")
+        .arg(out_dir())
+        .arg(folder.join("src/lib.rs"));
+    let done = rustc.status().unwrap();
     assert!(
         done.success(),
         "{} as Debian installs it does not compile",

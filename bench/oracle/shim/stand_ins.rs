@@ -1,4 +1,4 @@
-//! Small stand-ins for the three crates that the module uses. They say the same, not as fast.
+//! Small stand-ins for the three crates that the module uses. Results are the same, times are not.
 
 /// Nothing is logged; the arguments are still type-checked.
 pub(crate) mod log {

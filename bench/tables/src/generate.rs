@@ -478,6 +478,23 @@ pub fn program(seed: u64, program: Program) -> Case {
     case
 }
 
+/// Few values that live nearly everywhere, each with a hundred mentions and more, for measuring.
+pub fn long(seed: u64, values: u32) -> Case {
+    let plan = Plan {
+        instructions: (2_000, 2_000),
+        classes: (1, 1),
+        registers: (17, 17),
+        intervals: (values, values),
+        length: (700, 2_000),
+        fragments: (0, 0),
+        mention_percent: 8,
+        ..LONG
+    };
+    let mut case = planned(&mut Rng::new(seed), plan).pack(&format!("long:{values}:{seed}"));
+    case.room = Some(Room::most());
+    case
+}
+
 /// Every instruction but a call defines a value and reads one or two recent ones.
 fn program_draft(rng: &mut Rng, program: Program) -> Draft {
     let mut values: Vec<Value> = Vec::new();

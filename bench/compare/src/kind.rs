@@ -1,9 +1,11 @@
 //! The kinds of agreement and difference.
 
-use tables::answer::{Answer, Ending, Verdict, BAD_SAFEPOINT, FIXED_CLASH, NO_RECORD, NO_ROOM};
-use tables::case::Case;
-use tables::sound;
+use tables::answer::{
+    Answer, Ending, Verdict, BAD_SAFEPOINT, DONE, FIXED_CLASH, NO_RECORD, NO_ROOM,
+};
+use tables::case::{Case, Claim};
 use tables::words::{capacity, pair, RECORD_WORDS};
+use tables::{placed, sound};
 
 /// Room for the release build where it is asked what it does with refused tables: more records
 /// than any run of document 01 makes, so that a run that fills it is taken to be endless.
@@ -46,6 +48,8 @@ pub enum Kind {
     BadSafepoint(Release),
     /// Difference: answers 2 to 9 but 7. The module has no entry checks and is not asked.
     RefusedAtEntry(u32),
+    /// A claim: the checker's answer is that of the second reading of the placement rules.
+    Claim(u32),
     /// A difference that is not listed: an error of the port, of the shim or of the list.
     Unlisted(String),
 }
@@ -62,6 +66,7 @@ impl Kind {
             Kind::FixedClash(release) => format!("listed: 13, the release build: {release:?}"),
             Kind::BadSafepoint(release) => format!("listed: 7, the release build: {release:?}"),
             Kind::RefusedAtEntry(number) => format!("listed: {number}, refused at entry, not run"),
+            Kind::Claim(number) => format!("a claim, {number}, equal to the second reading"),
             Kind::Unlisted(why) => format!("NOT LISTED: {why}"),
         }
     }
@@ -75,6 +80,28 @@ fn unlisted(why: &str) -> Kind {
     Kind::Unlisted(why.to_string())
 }
 
+/// The module gives something else. The reason is short, so that there are few of them; the case
+/// is printed with it.
+fn otherwise(ours: &Answer, module: &Verdict) -> Kind {
+    let theirs = match module.answer() {
+        Some(answer) => format!("{} at {}", answer.number, answer.place),
+        None => "a panic".to_string(),
+    };
+    if module
+        .answer()
+        .is_some_and(|answer| answer.number == ours.number)
+    {
+        return unlisted(&format!(
+            "{}, but with another place or other records",
+            ours.number
+        ));
+    }
+    unlisted(&format!(
+        "ours {} at {}, the module {theirs}",
+        ours.number, ours.place
+    ))
+}
+
 /// Compares an answer with the module's builds.
 pub fn classify(case: &Case, ours: &Answer) -> Kind {
     let entry = sound::refusal(case);
@@ -86,6 +113,16 @@ pub fn classify(case: &Case, ours: &Answer) -> Kind {
         Some(answer) => Kind::RefusedAtEntry(answer.number),
         None => accepted(case, ours),
     }
+}
+
+/// Compares an answer of the checker with the second reading of the placement rules.
+pub fn classify_claim(case: &Case, claim: &Claim, ours: &Answer) -> Kind {
+    let second = placed::verdict(case, claim);
+    if second != *ours {
+        let (ours, second) = (ours.number, second.number);
+        return unlisted(&format!("claim: ours {ours}, the second reading {second}"));
+    }
+    Kind::Claim(ours.number)
 }
 
 /// What document 01 would answer, by the module with both lines patched: a stand-in for the port
@@ -105,6 +142,9 @@ pub fn module_alone(case: &Case) -> Answer {
 fn accepted(case: &Case, ours: &Answer) -> Kind {
     let limit = capacity(case.room().result);
     let by_identity = oracle_ties::assign(case, limit);
+    if !is_placed(case, ours) {
+        return unlisted("a done result breaks a placement rule");
+    }
     if ours.number == FIXED_CLASH {
         return fixed_clash(case, ours, &by_identity);
     }
@@ -113,11 +153,27 @@ fn accepted(case: &Case, ours: &Answer) -> Kind {
     }
     let same = by_identity.answer() == Some(ours);
     match (same, by_identity.tie) {
-        (false, _) => unlisted(&format!("the module gives {:?}", by_identity.ending)),
+        (false, _) => otherwise(ours, &by_identity),
         (true, _) if ours.number == NO_RECORD => Kind::NoRecord,
         (true, true) => Kind::EqualByIdentity,
         (true, false) => untied(ours, &oracle::assign(case, limit)),
     }
+}
+
+/// A done result obeys the placement rules.
+fn is_placed(case: &Case, ours: &Answer) -> bool {
+    let Answer {
+        count,
+        total,
+        ref words,
+        ..
+    } = *ours;
+    let claim = Claim {
+        count,
+        total,
+        words: words.clone(),
+    };
+    ours.number != DONE || placed::verdict(case, &claim).number == DONE
 }
 
 /// Without a tie the published text itself must agree.
@@ -130,10 +186,7 @@ fn untied(ours: &Answer, plain: &Verdict) -> Kind {
 
 fn wide(ours: &Answer, by_identity: &Verdict, by_size: &Verdict) -> Kind {
     if by_size.answer() != Some(ours) {
-        return unlisted(&format!(
-            "the module with slots by size gives {:?}",
-            by_size.ending
-        ));
+        return otherwise(ours, by_size);
     }
     match by_identity.answer() == Some(ours) {
         true if ours.number == NO_RECORD => Kind::NoRecord,
@@ -155,7 +208,7 @@ fn fixed_clash(case: &Case, ours: &Answer, by_identity: &Verdict) -> Kind {
         {
             Kind::FixedClash(release(case))
         }
-        other => unlisted(&format!("13, but the module gives {other:?}")),
+        _ => otherwise(ours, by_identity),
     }
 }
 

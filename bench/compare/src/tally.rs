@@ -14,8 +14,8 @@ struct Row {
 
 #[derive(Default)]
 pub struct Tally {
-    rows: BTreeMap<Kind, Row>,
-    numbers: BTreeMap<u32, u64>,
+    /// By kind and answer.
+    rows: BTreeMap<(Kind, u32), Row>,
 }
 
 /// How much there is to read in a case.
@@ -30,13 +30,12 @@ fn size(case: &Case) -> usize {
 
 impl Tally {
     pub fn add(&mut self, kind: Kind, case: &Case, answer: &Answer) {
-        *self.numbers.entry(answer.number).or_insert(0) += 1;
         let fresh = || Row {
             count: 0,
             smallest: case.clone(),
             answer: answer.clone(),
         };
-        let row = self.rows.entry(kind).or_insert_with(fresh);
+        let row = self.rows.entry((kind, answer.number)).or_insert_with(fresh);
         row.count += 1;
         if size(case) < size(&row.smallest) {
             row.smallest = case.clone();
@@ -46,39 +45,39 @@ impl Tally {
 
     /// True where every difference is one that docs/DIFFERENCES.md lists.
     pub fn is_clean(&self) -> bool {
-        !self.rows.keys().any(Kind::is_unlisted)
+        !self.rows.keys().any(|(kind, _)| kind.is_unlisted())
     }
 
-    /// Counts by answer and by kind.
+    /// Counts by answer, and by kind and answer.
     pub fn print(&self) {
-        let by_number: Vec<String> = self
-            .numbers
-            .iter()
-            .map(|(n, c)| format!("{n}: {c}"))
-            .collect();
+        let mut numbers: BTreeMap<u32, u64> = BTreeMap::new();
+        for ((_, number), row) in &self.rows {
+            *numbers.entry(*number).or_insert(0) += row.count;
+        }
+        let by_number: Vec<String> = numbers.iter().map(|(n, c)| format!("{n}: {c}")).collect();
         println!("answers  {}", by_number.join(", "));
-        for (kind, row) in &self.rows {
+        for ((kind, number), row) in &self.rows {
+            let name = &row.smallest.name;
             println!(
-                "{:9}  {} (smallest: {})",
+                "{:9}  {number:2}  {} (smallest: {name})",
                 row.count,
-                kind.title(),
-                row.smallest.name
+                kind.title()
             );
         }
     }
 
-    /// The smallest case of every kind, as text, with the answer.
+    /// The smallest case of every kind and answer, as text.
     pub fn print_smallest(&self) {
-        for (kind, row) in &self.rows {
-            println!("# {}", kind.title());
-            println!("# {}", row.answer.line(&row.smallest.name));
-            println!("{}", text::write(&row.smallest));
-        }
+        self.print_cases(|_| true);
     }
 
     /// The unlisted differences as text, to be looked at.
     pub fn print_unlisted(&self) {
-        for (kind, row) in self.rows.iter().filter(|(kind, _)| kind.is_unlisted()) {
+        self.print_cases(Kind::is_unlisted);
+    }
+
+    fn print_cases(&self, wanted: impl Fn(&Kind) -> bool) {
+        for ((kind, _), row) in self.rows.iter().filter(|((kind, _), _)| wanted(kind)) {
             println!("# {}", kind.title());
             println!("# {}", row.answer.line(&row.smallest.name));
             println!("{}", text::write(&row.smallest));

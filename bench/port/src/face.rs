@@ -119,6 +119,7 @@ pub fn check(case: &Case, words: &[u32], count: u32, total: u32) -> Four {
     }
 }
 
+#[cfg(not(archive_at_hand))]
 const MISSING: &str = "the archive is not there: run `rt staticlib temgurisk` and build again";
 
 #[cfg(not(archive_at_hand))]

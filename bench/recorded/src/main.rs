@@ -1,10 +1,12 @@
 //! `recorded CASES ANSWERS [--smallest]`: compares recorded answers with the published module, case
-//! by case, and counts by kind. It fails where a difference is not listed.
+//! by case, and counts by kind; recorded answers to claims with the placement rules; and, where the
+//! archive is there, both with the port. It fails where a difference is not listed.
 
-use compare::Tally;
+use compare::{Kind, Tally};
 use std::collections::HashMap;
 use std::process::ExitCode;
 use tables::answer::Answer;
+use tables::case::Case;
 use tables::text;
 
 const HOW: &str = "use: recorded CASES ANSWERS [--smallest]";
@@ -55,9 +57,32 @@ fn run(cases: &str, answers: &str) -> Result<Tally, String> {
         let Some(answer) = recorded.get(&case.name) else {
             return Err(format!("no answer for {}", case.name));
         };
-        tally.add(compare::classify(&case, answer), &case, answer);
+        tally.add(kind(&case, answer), &case, answer);
     }
     Ok(tally)
+}
+
+/// The port must give the recorded answer. Then a claim is compared with the second reading of the
+/// placement rules, and anything else with the module.
+fn kind(case: &Case, recorded: &Answer) -> Kind {
+    if port::AT_HAND {
+        match ours(case) {
+            Ok(answer) if answer == *recorded => {}
+            Ok(answer) => return Kind::Unlisted(format!("the port answers {answer:?}")),
+            Err(why) => return Kind::Unlisted(why),
+        }
+    }
+    match &case.claim {
+        Some(claim) => compare::classify_claim(case, claim, recorded),
+        None => compare::classify(case, recorded),
+    }
+}
+
+fn ours(case: &Case) -> Result<Answer, String> {
+    match &case.claim {
+        Some(claim) => Ok(port::checked(case, claim)),
+        None => port::answer(case),
+    }
 }
 
 fn parse_answers(text: &str) -> Result<HashMap<String, Answer>, String> {

@@ -12,6 +12,9 @@ const HOW: &str = "use: side-by-side [--count N] [--from SEED] [--file CASES] [-
 /// The count of `./test`; a full run is a million.
 const USUAL_COUNT: u64 = 20_000;
 
+/// How many damaged copies of a done result the checker is asked about.
+const DAMAGED_CLAIMS: u64 = 2;
+
 struct Wanted {
     count: u64,
     from: u64,
@@ -85,48 +88,48 @@ fn made_up(seed: u64) -> Case {
     }
 }
 
-/// One case through both.
+/// One case through both, and where it is done, its result through the checker.
 fn side_by_side(case: &Case, tally: &mut Tally) {
-    match ours(case) {
-        Ok(answer) => tally.add(compare::classify(case, &answer), case, &answer),
+    let ours = if port::AT_HAND {
+        port::answer(case)
+    } else {
+        Ok(compare::module_alone(case))
+    };
+    match ours {
+        Ok(answer) => {
+            tally.add(compare::classify(case, &answer), case, &answer);
+            if port::AT_HAND && answer.number == DONE {
+                check_claims(case, &answer, tally);
+            }
+        }
         Err(why) => tally.add(Kind::Unlisted(why), case, &Answer::refused(0, 0)),
     }
 }
 
-fn ours(case: &Case) -> Result<Answer, String> {
-    if !port::AT_HAND {
-        return Ok(compare::module_alone(case));
-    }
-    let answer = port::answer(case)?;
-    if answer.number == DONE {
-        checked(case, &answer)?;
-    }
-    Ok(answer)
-}
-
-/// Every done result is accepted by the checker.
-fn checked(case: &Case, answer: &Answer) -> Result<(), String> {
+/// The result itself, and damaged copies of it: the checker answers as the second reading does.
+fn check_claims(case: &Case, answer: &Answer, tally: &mut Tally) {
     let Answer {
         count,
         total,
         ref words,
         ..
     } = *answer;
-    let verdict = port::checked(
-        case,
-        &Claim {
-            count,
-            total,
-            words: words.clone(),
-        },
-    );
-    let fits = verdict
-        == Answer {
-            words: Vec::new(),
-            ..answer.clone()
+    let whole = Claim {
+        count,
+        total,
+        words: words.clone(),
+    };
+    let seed = u64::from(count) << 32 | u64::from(case.instructions);
+    let damaged = (0..DAMAGED_CLAIMS).map(|i| generate::damaged_claim(seed + i, &whole));
+    for claim in std::iter::once(whole.clone()).chain(damaged) {
+        let verdict = port::checked(case, &claim);
+        let kind = compare::classify_claim(case, &claim, &verdict);
+        let with_claim = Case {
+            claim: Some(claim),
+            ..case.clone()
         };
-    fits.then_some(())
-        .ok_or_else(|| format!("the checker answers {verdict:?}"))
+        tally.add(kind, &with_claim, &verdict);
+    }
 }
 
 fn report(tally: &Tally, smallest: bool) -> ExitCode {

@@ -1,6 +1,6 @@
 //! Made-up sound tables of many shapes. The seed decides everything.
 
-use crate::case::{Case, Options, Room};
+use crate::case::{Case, Claim, Options, Room};
 use crate::rng::Rng;
 use crate::words::*;
 
@@ -94,7 +94,7 @@ const LONG: Plan = Plan {
 
 const WIDE: Plan = Plan {
     instructions: (10, 60),
-    registers: (1, 3),
+    registers: (2, 4),
     intervals: (4, 16),
     length: (3, 40),
     mention_percent: 8,
@@ -138,6 +138,29 @@ pub fn damaged(seed: u64) -> Case {
         _ => read_at_safepoints(&mut case),
     }
     case
+}
+
+/// A claim with one thing changed.
+pub fn damaged_claim(seed: u64, claim: &Claim) -> Claim {
+    let mut rng = Rng::new(seed);
+    let mut claim = claim.clone();
+    let records = claim.words.len() as u32 / RECORD_WORDS as u32;
+    match rng.range(0, 5) {
+        0 => claim.total = claim.total.wrapping_add(rng.range(0, 2)).wrapping_sub(1),
+        1 => claim.count = claim.count.wrapping_add(rng.range(0, 2)).wrapping_sub(1),
+        2 if records > 1 => copy_place(&mut rng, &mut claim.words, records),
+        3 if records > 0 => claim.words[RECORD_WORDS * rng.range(0, records - 1) as usize] ^= 1,
+        4 => {}
+        _ => damage(&mut rng, &mut claim.words),
+    }
+    claim
+}
+
+/// One record gets the register or slot of another.
+fn copy_place(rng: &mut Rng, words: &mut [u32], records: u32) {
+    let from = RECORD_WORDS * rng.range(0, records - 1) as usize;
+    let to = RECORD_WORDS * rng.range(0, records - 1) as usize;
+    words[to] = words[to] >> 16 << 16 | words[from] & 0xffff;
 }
 
 fn lend_less(rng: &mut Rng, case: &mut Case) {

@@ -47,7 +47,6 @@ module _ (ms ss : List ℕ) where
       record {
         mentions = rising-sub _ (q .mentions) ms (sub-first _ (q .mentions) (q .mentions) (staying-most _ (q .mentions) ms) (sub-refl _)) (h .mentions);
         safepoints = ascending-sub _ (q .safepoints) ss (sub-first _ (q .safepoints) (q .safepoints) (staying-most _ (q .safepoints) ss) (sub-refl _)) (h .safepoints);
-        register = h .register;
       }
 
   pub fits-child : (q : Piece) (p : ℕ) → PieceFits ms ss q → PieceFits ms ss (child ms ss q p)
@@ -55,7 +54,6 @@ module _ (ms ss : List ℕ) where
       record {
         mentions = rising-sub _ (q .mentions) ms (sub-rest _ (q .mentions) (q .mentions) (staying-most _ (q .mentions) ms) (sub-refl _)) (h .mentions);
         safepoints = ascending-sub _ (q .safepoints) ss (sub-rest _ (q .safepoints) (q .safepoints) (staying-most _ (q .safepoints) ss) (sub-refl _)) (h .safepoints);
-        register = λ r e. let z : _≡_ {A = ℕ} 0 1 = cc in absurd (omega arith);
       }
 
   -- a piece that fits takes the place of another
@@ -90,13 +88,13 @@ module _ (ms ss : List ℕ) where
   unfolding splitPieces
   fit-split ps k p l h = fit-append _ _ (fits-child _ p (h .each k l)) (fit-set ps k _ (fits-parent _ p (h .each k l)) h)
 
-  -- a place that is no register, or one of 64, keeps the fit
-  pub fits-place : (q : Piece) (w : Place) → ((r : ℕ) → w ≡ Register r → r < 64) → PieceFits ms ss q → PieceFits ms ss (withPlace w q)
-  fits-place q w f h = record { mentions = h .mentions; safepoints = h .safepoints; register = f }
+  -- a place has no part in it
+  pub fits-place : (q : Piece) (w : Place) → PieceFits ms ss q → PieceFits ms ss (withPlace w q)
+  fits-place q w h = record { mentions = h .mentions; safepoints = h .safepoints }
 
-  pub fit-put : (s : State) (k : ℕ) (w : Place) → k < length (s .pieces) → ((r : ℕ) → w ≡ Register r → r < 64) → Fit ms ss (s .pieces) → Fit ms ss (put s k w .pieces)
+  pub fit-put : (s : State) (k : ℕ) (w : Place) → k < length (s .pieces) → Fit ms ss (s .pieces) → Fit ms ss (put s k w .pieces)
   unfolding put
-  fit-put s k w l f h = fit-set (s .pieces) k _ (fits-place _ w f (h .each k l)) h
+  fit-put s k w l h = fit-set (s .pieces) k _ (fits-place _ w (h .each k l)) h
 
   -- the queue has no part in it
   pub fit-enqueue : (s : State) (k : ℕ) → Fit ms ss (s .pieces) → Fit ms ss (enqueue s k .pieces)
@@ -106,8 +104,8 @@ module _ (ms ss : List ℕ) where
   -- a spill keeps the fit
   pub fit-spillTo : (s : State) (k size : ℕ) (h : Home) → k < length (s .pieces) → Fit ms ss (s .pieces) → Fit ms ss (spillTo s k size h .pieces)
   unfolding spillTo
-  fit-spillTo s k size (Spilled t) l f = fit-put s k (Slot t) l (λ r e. let z : _≡_ {A = ℕ} 0 1 = cc in absurd (omega arith)) f
-  fit-spillTo s k size Unspilled l f = fit-put _ k (Slot _) l (λ r e. let z : _≡_ {A = ℕ} 0 1 = cc in absurd (omega arith)) f
+  fit-spillTo s k size (Spilled t) l f = fit-put s k (Slot t) l f
+  fit-spillTo s k size Unspilled l f = fit-put _ k (Slot _) l f
 
   pub fit-spill : (g : Given) (s : State) (k : ℕ) → k < length (s .pieces) → Fit ms ss (s .pieces) → Fit ms ss (spill g s k .pieces)
   unfolding spill

@@ -21,12 +21,13 @@ use Rattle.rules.specs.Split.{splitPieces, newRecord, split, splitAndQueue, spl
 use Rattle.uses.specs.Runs.{Rising}
 use Rattle.store.specs.declared.Counts.{Counts}
 use Rattle.store.specs.StateOf.{stateOf, Ready, After, Got}
+use Rattle.store.proofs.StateLaws.{records-are}
 use Rattle.split.specs.declared.Turn.{Turn}
 use Rattle.split.specs.declared.Turn.the-variants.{On, Off}
 use Rattle.split.specs.Fit.{Fit}
 use Rattle.split.specs.Turns.{cutting, outcomeOf, Held, HeldOf, Spilling, Went, Turned, on, off, Does, Parted, Spilt}
 use Rattle.split.proofs.FitLaws.{fit-spill}
-use Rattle.split.proofs.SplitLaws.{records-are, split-room, split-full, got-rising}
+use Rattle.split.proofs.SplitLaws.{split-room, split-full, got-rising}
 
 -- what a turn leaves, seen from counts before
 pub further : (cap : ℕ) (ms ss ws : List ℕ) (c e : Counts) (r : Turn) → c .records ≤ e .records → e .intervals ≡ c .intervals
@@ -90,12 +91,12 @@ module _ (cap : ℕ) (ms ss : List ℕ) where
   if-any y is s k Nothing = refl
   if-any y is s k (Point n) = refl
 
-  tail-any : (y : Strategy) (is : List ℕ) (s : State) (k p : ℕ) → queueTail (cutting y is ms ss cap) s k p ≡ queueTail (cutting From [] ms ss cap) s k p
+  pub tail-any : (y : Strategy) (is : List ℕ) (s : State) (k p : ℕ) → queueTail (cutting y is ms ss cap) s k p ≡ queueTail (cutting From [] ms ss cap) s k p
   unfolding queueTail
   tail-any y is s k p = if-any y is s k _
 
   -- nor the strategy in a spill
-  spill-any : (y : Strategy) (is : List ℕ) (s : State) (k : ℕ) → spill (cutting y is ms ss cap) s k ≡ spill (cutting From is [] [] cap) s k
+  pub spill-any : (y : Strategy) (is : List ℕ) (s : State) (k : ℕ) → spill (cutting y is ms ss cap) s k ≡ spill (cutting From is [] [] cap) s k
   unfolding spill
   spill-any y is s k = refl
 

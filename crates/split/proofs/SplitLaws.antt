@@ -9,7 +9,6 @@ use lib.ListN.{length, getD, set, take, length-append, length-set, length-take}
 use lib.Dec.{ltb}
 use borrow.Author.Tests.{lt-ltb, le-ltb}
 use Rattle.words.specs.Choose.{choose}
-use Rattle.words.proofs.Rows.{length-tab}
 use Rattle.rules.specs.declared.Answer.{Answer}
 use Rattle.rules.specs.declared.Answer.the-variants.{NoRecord}
 use Rattle.rules.specs.declared.Piece.{Piece}
@@ -20,17 +19,12 @@ use Rattle.uses.specs.Runs.{Rising, Orderly}
 use Rattle.uses.specs.Cuts.{Cut}
 use Rattle.uses.specs.declared.Halves.{Halves}
 use Rattle.store.specs.declared.Counts.{Counts}
-use Rattle.store.specs.Cells.{cells}
+use Rattle.store.proofs.StateLaws.{records-are}
 use Rattle.store.specs.StateOf.{stateOf, Ready, After, Got}
 use Rattle.split.specs.declared.Turn.the-variants.{On, Off}
 use Rattle.split.specs.Fit.{PieceFits, Fit}
 use Rattle.split.specs.Turns.{cutting, outcomeOf, Held, Went, Turned, on, off, Does, Halved, HalvesPut, Parted}
 use Rattle.split.proofs.FitLaws.{fit-split, fit-enqueue}
-
--- as many pieces as records are in use
-pub records-are : (cap : ℕ) (ws : List ℕ) (c : Counts) → Ready cap ws c → length (stateOf cap ws c .pieces) ≡ c .records
-unfolding stateOf cells
-records-are cap ws c r = simp (length-take, length-tab) (omega (arith, r .records))
 
 -- a split for which there is room, and one for which there is none
 pub split-room : (g : Given) (s : State) (k p : ℕ) → newRecord s < g .capacity → split g s k p ≡ goes (withPieces (splitPieces (g .tables .mentions) (g .tables .safepoints) (s .pieces) k p) s)

@@ -8,8 +8,8 @@ use Rattle.words.specs.Packed.{intervalCount}
 use Rattle.rules.specs.declared.Answer.{Answer}
 use Rattle.rules.specs.declared.Strategy.{Strategy}
 use Rattle.rules.specs.declared.Strategy.the-variants.{From}
-use Rattle.rules.specs.State.{Given, State, Outcome, goes, stops, withPieces}
-use Rattle.rules.specs.Split.{splitPieces}
+use Rattle.rules.specs.State.{Given, State, Outcome, goes, stops, goOn, withPieces}
+use Rattle.rules.specs.Split.{splitPieces, splitAndQueue}
 use Rattle.rules.specs.Slots.{spill}
 use Rattle.uses.specs.declared.Halves.{Halves}
 use Rattle.store.specs.declared.Counts.{Counts}
@@ -89,3 +89,7 @@ pub record Spilling (cap : ℕ) (is ws : List ℕ) (c : Counts) (k : ℕ) : Type
 -- record k was spilled, and d are the counts
 pub record Spilt (cap : ℕ) (is ws ws′ : List ℕ) (c d : Counts) (k : ℕ) : Type 0 where
   pub after : After cap ws ws′ c d (spill (cutting From is [] [] cap) (stateOf cap ws c) k) (c .records) (c .queued) (c .active)
+
+-- "split at .., queue the child, spill the piece"
+abbrev pub splitThenSpill : Given → State → ℕ → ℕ → Outcome
+splitThenSpill g s k p = goOn (splitAndQueue g s k p) (λ t. goes (spill g t k))

@@ -2,6 +2,7 @@
 use rules::Answer;
 use store::Counts;
 
+pub mod spilling;
 pub mod spills;
 pub mod splits;
 

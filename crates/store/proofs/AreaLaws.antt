@@ -1,21 +1,20 @@
 -- The loops that fill the work area and the result area: the invariant of each, how it starts, goes on and ends. The intervals' table is t.
 -- Assumes nothing.
-use Prim.Native.Nat.{ℕ, zero, suc, _+_, _-_, _*_, _/_, _≤_, _<_}
+use Prim.Native.Nat.{ℕ, zero, suc, _+_, _-_, _*_, _≤_, _<_}
 use mathlib.Core.Path.{_≡_, refl, sym, ap, _∙_}
 use mathlib.Core.List.{List, [], _∷_, _++_}
 use native.Mathlib.Omega.{arith}
 use native.Mathlib.Numerals.{add-one}
 use borrow.Author.Fill.{fill-more}
-use lib.ListN.{length, getD, set, take, drop, replicate, length-set, length-append, length-replicate}
+use lib.ListN.{length, getD, set, take, drop, replicate, length-set, length-replicate}
 use lib.Seq.{take-suc, take-suc-set, take-all, length-take-le}
 use Rattle.words.specs.Rows.{tab}
 use Rattle.words.specs.Packed.{intervalAt, intervalCount, recordRow, recordWords}
 use Rattle.words.specs.declared.Interval.{Interval}
 use Rattle.words.specs.declared.Record.{Record}
-use Rattle.words.proofs.Rows.{length-tab, sets-after}
+use Rattle.words.proofs.Rows.{sets-after}
 use Rattle.rules.specs.declared.Piece.{Piece}
 use Rattle.rules.specs.declared.Place.the-variants.{Nowhere}
-use Rattle.rules.specs.declared.Home.{Home}
 use Rattle.rules.specs.declared.Home.the-variants.{Unspilled}
 use Rattle.rules.specs.Room.{capacity}
 use Rattle.rules.specs.State.{State, noPiece, piece, enqueue}
@@ -25,7 +24,7 @@ use Rattle.rules.proofs.Leaves.{length-pack}
 use Rattle.queue.specs.Heap.{sort}
 use Rattle.store.specs.Cells as cells
 use Rattle.store.specs.Cells.{Cells, cells, Becomes, Packable}
-use Rattle.store.specs.StateOf.{stateIn, stateOf, Each, none, more, spilledIn, Sane, Ready, After, Got, Loads, Whole, Filled, Loaded}
+use Rattle.store.specs.StateOf.{stateOf, Each, none, more, Sane, Ready, After, Got, Loads, Whole, Filled, Loaded}
 use Rattle.store.specs.declared.Counts.{Counts}
 use Rattle.store.proofs.CellLaws.{length-pieces, length-homes}
 use Rattle.store.proofs.StateLaws.{records-are}
@@ -39,6 +38,7 @@ pub record Zeroed (d o : List ℕ) (m i : ℕ) : Type 0 where
 pub zeroed-starts : (d : List ℕ) (m : ℕ) → Zeroed d d m 0
 zeroed-starts d m = record { is = refl; upto = omega arith; long = refl }
 
+-- one word more
 pub zeroed-more : (d o : List ℕ) (cap i : ℕ) → cap ≡ capacity d → i < cap * 2 → Zeroed d o (cap * 2) i → Zeroed d (set o i 0) (cap * 2) (i + 1)
 zeroed-more d o cap i e h z = record { is = rw (z .is) (fill-more i 0 d (omega arith)); upto = omega arith; long = length-set o i 0 ∙ z .long }
 
@@ -47,6 +47,7 @@ zeroed-ends d o cap i e h z =
     let f : i ≡ capacity d * recordWords = omega (arith, z .upto) in z .is ∙ ap (λ (k : ℕ). replicate k 0 ++ drop k d) f
 
 -- ---- emit: ps are the pieces
+-- the row of record k, by its piece and the record of that
 pub row-made : (cap : ℕ) (ws : List ℕ) (c : Counts) (k : ℕ) (q : Piece) (r : Record) (row : List ℕ) → Got cap ws c k q → Packable q r → row ≡ recordRow r
     → row ≡ recordRow (recordFor (piece (stateOf cap ws c) k))
 row-made cap ws c k q r row g p e = e ∙ ap recordRow (p .is ∙ ap recordFor (g .is))
@@ -84,6 +85,7 @@ emitted-step ps d o n k row g h l r e =
     }
 
 module _ (cap : ℕ) (ws : List ℕ) (c : Counts) (d o : List ℕ) (k : ℕ) where
+  -- one record more
   pub emitted-more : (row : List ℕ) → Ready cap ws c → Emitted (stateOf cap ws c .pieces) d o (c .records) k → k < c .records → c .records * recordWords ≤ length d
       → row ≡ recordRow (recordFor (piece (stateOf cap ws c) k))
       → Emitted (stateOf cap ws c .pieces) d (set (set o (k * 2) (getD row 0 0)) (k * 2 + 1) (getD row 1 0)) (c .records) (k + 1)
@@ -105,6 +107,7 @@ replicate-snoc : {A : Type 0} (n : ℕ) (a : A) → replicate (suc n) a ≡ repl
 replicate-snoc zero a = refl
 replicate-snoc (suc n) a = ap (λ l. a ∷ l) (replicate-snoc n a)
 
+-- the piece of interval v, by the interval that its four words are
 pub whole-made : (t : List ℕ) (v : ℕ) (i : Interval) → v < 4096 → i ≡ intervalAt t v
     → Whole t v (record { interval = v; place = Nowhere; start = i .start; end = i .end; mentions = i .mentions; safepoints = i .safepoints })
 whole-made t v i h e = record { is = rw e; small = h }
@@ -118,6 +121,7 @@ pub filling-starts : (cap : ℕ) (t d : List ℕ) → Filling cap t d d 0
 filling-starts cap t d = record { filled = record { pieces = refl; homes = refl; long = refl }; upto = omega arith; long = refl }
 
 module _ (cap : ℕ) (t d ws ws₁ ws₂ : List ℕ) (k : ℕ) (q : Piece) where
+  -- one interval more
   pub filling-more : Loads cap t d → Filling cap t d ws k → k < intervalCount t → Whole t k q
       → Becomes cap ws ws₁ (cells.withPieces (set (cells cap ws .pieces) k q) (cells cap ws))
       → Becomes cap ws₁ ws₂ (cells.withHomes (set (cells cap ws₁ .homes) k Unspilled) (cells cap ws₁))
@@ -173,6 +177,7 @@ pub record Queueing (cap : ℕ) (t d ws : List ℕ) (c : Counts) (n k : ℕ) : T
   pub long : length ws ≡ length d
 
 module _ (cap : ℕ) (t d : List ℕ) where
+  -- nothing is queued after `fill`
   pub queueing-starts : (ws : List ℕ) → Loads cap t d → Filled cap t d ws (intervalCount t) → Queueing cap t ws ws (fresh (intervalCount t)) (intervalCount t) 0
   queueing-starts ws l f =
       record {
@@ -202,6 +207,7 @@ module _ (cap : ℕ) (t d : List ℕ) where
       is : stateOf cap ws (fresh (intervalCount t)) ≡ enqueueAll 0 (unqueued t)
       is = unfold enqueueAll in plain
 
+  -- one record more is queued
   pub queueing-more : (ws ws′ : List ℕ) (c r : Counts) (n k : ℕ) → Queueing cap t d ws c n k → k < n
       → After cap ws ws′ c r (enqueue (stateOf cap ws c) k) (c .records) (c .queued + 1) (c .active) → Queueing cap t d ws′ r n (k + 1)
   queueing-more ws ws′ c r n k g h a =
@@ -219,6 +225,7 @@ module _ (cap : ℕ) (t d : List ℕ) where
       next : enqueue (enqueueAll k (unqueued t)) k ≡ enqueueAll (k + 1) (unqueued t)
       next = unfold enqueueAll in rw (add-one k)
 
+  -- all are queued: the state that a run begins with
   pub queueing-ends : (d₀ ws : List ℕ) (c : Counts) (k : ℕ) → Filled cap t d₀ d (intervalCount t) → Queueing cap t d ws c (intervalCount t) k → intervalCount t ≤ k → Loaded cap t d₀ ws c (intervalCount t)
   queueing-ends d₀ ws c k f g h =
       let e : k ≡ intervalCount t = omega (arith, g .upto) in

@@ -1,7 +1,7 @@
 -- The halves of a split, and that they keep to their interval.
 -- Assumes nothing.
 use Prim.Native.Nat.{ℕ, _-_}
-use mathlib.Core.Path.{_≡_, refl}
+use mathlib.Core.Path.{_≡_}
 use mathlib.Core.List.{List}
 use Rattle.words.specs.declared.Range.{Range}
 use Rattle.rules.specs.declared.Piece.{Piece}
@@ -11,7 +11,6 @@ use Rattle.rules.specs.Tables.{Tables}
 use Rattle.rules.specs.Accepted.{Accepted, interval}
 use Rattle.rules.specs.State.{withPlace}
 use Rattle.rules.specs.Split.{firstOf, restOf, parent, child}
-use Rattle.uses.specs.declared.Halves.{Halves}
 use Rattle.uses.specs.Runs.{Kept, Orderly, Owned}
 use Rattle.uses.specs.Mentions.{staysBelow}
 use Rattle.uses.specs.Safepoints.{useBelow}

@@ -1,6 +1,6 @@
 -- What a walk over a run has found after n entries: each turn of the walks, and their ends.
 -- Assumes nothing.
-use Prim.Native.Nat.{ℕ, zero, suc, _+_, _-_, _*_, _≤_, _<_}
+use Prim.Native.Nat.{ℕ, zero, suc, _+_, _-_, _≤_, _<_}
 use mathlib.Core.Path.{_≡_, refl, sym, ap, _∙_}
 use mathlib.Core.Bool.{Bool, true, false}
 use mathlib.Core.List.{List, [], _∷_, _++_, append-nil}
@@ -10,17 +10,15 @@ use mathlib.Core.Logic.{⊎-elim}
 use native.Mathlib.Numerals.{add-one}
 use lib.ListN.{length, getD, take, drop, length-take, length-drop}
 use lib.Seq.{drop-cons, take-suc, getD-take, getD-drop}
-use lib.Dec.{ltb}
 use borrow.Author.Tests.{ltb-false, le-ltb}
-use Rattle.words.specs.Choose.{choose}
 use Rattle.words.specs.declared.Range.{Range}
 use Rattle.words.specs.declared.Spot.{Spot}
 use Rattle.words.specs.declared.Spot.the-variants.{Nothing, Point}
-use Rattle.words.specs.Points.{usePoint, defPoint}
+use Rattle.words.specs.Points.{usePoint}
 use Rattle.words.specs.Packed.{mentionIn, part}
 use Rattle.rules.specs.Uses.{pointsIn, mentionPoints, nextUse, lastUse}
 use Rattle.rules.specs.Accepted.{InRange}
-use Rattle.rules.specs.Split.{countOf, anyBelow}
+use Rattle.rules.specs.Split.{countOf}
 use Rattle.uses.specs.Runs.{mentionAt, Rising, Ascending, Kept}
 use Rattle.uses.specs.Mentions.{staysBelow}
 use Rattle.uses.specs.Safepoints.{useBelow}

@@ -4,7 +4,6 @@ use words::Spot;
 use words::points;
 use words::read;
 ghost use mathlib.Core.Path.{_≡_};
-ghost use Prim.Native.Nat.{ℕ, _+_, _*_, _<_, _≤_};
 ghost use Rattle.words.specs.Packed.{mentionIn, part};
 ghost use Rattle.rules.specs.Uses.{atUse, atDef, pointsIn, mentionPoints, isPoint, nextUse, lastUse};
 ghost use Rattle.uses.specs.Runs.{Rising, Kept};

@@ -9,7 +9,7 @@ use tables::{placed, sound};
 
 /// Room for the release build where it is asked what it does with refused tables: more records
 /// than any run of document 01 makes, so that a run that fills it is taken to be endless.
-const ENDLESS: usize = 40_000;
+const ENDLESS: usize = 20_000;
 
 /// What the release build of the module does where document 01 refuses.
 #[derive(Clone, Copy, Debug, PartialEq, Eq, PartialOrd, Ord)]

@@ -9,7 +9,7 @@ use tables::{placed, sound};
 
 /// Room for the release build where it is asked what it does with refused tables: more records
 /// than any run of document 01 makes, so that a run that fills it is taken to be endless.
-const ENDLESS: usize = 40_000;
+const ENDLESS: usize = 20_000;
 
 /// What the release build of the module does where document 01 refuses.
 #[derive(Clone, Copy, Debug, PartialEq, Eq, PartialOrd, Ord)]
@@ -48,6 +48,8 @@ pub enum Kind {
     BadSafepoint(Release),
     /// Difference: answers 2 to 9 but 7. The module has no entry checks and is not asked.
     RefusedAtEntry(u32),
+    /// The module is not at hand: only the entry checks are compared, with their second reading.
+    NotCompared,
     /// A claim: the checker's answer is that of the second reading of the placement rules.
     Claim(u32),
     /// A difference that is not listed: an error of the port, of the shim or of the list.
@@ -66,6 +68,7 @@ impl Kind {
             Kind::FixedClash(release) => format!("listed: 13, the release build: {release:?}"),
             Kind::BadSafepoint(release) => format!("listed: 7, the release build: {release:?}"),
             Kind::RefusedAtEntry(number) => format!("listed: {number}, refused at entry, not run"),
+            Kind::NotCompared => "accepted; the module is not at hand".to_string(),
             Kind::Claim(number) => format!("a claim, {number}, equal to the second reading"),
             Kind::Unlisted(why) => format!("NOT LISTED: {why}"),
         }
@@ -104,14 +107,21 @@ fn otherwise(ours: &Answer, module: &Verdict) -> Kind {
 
 /// Compares an answer with the module's builds.
 pub fn classify(case: &Case, ours: &Answer) -> Kind {
-    let entry = sound::refusal(case);
+    match classify_entry(case, ours) {
+        Kind::NotCompared => accepted(case, ours),
+        Kind::RefusedAtEntry(BAD_SAFEPOINT) => Kind::BadSafepoint(release(case)),
+        kind => kind,
+    }
+}
+
+/// Compares an answer with the second reading of the entry checks.
+pub fn classify_entry(case: &Case, ours: &Answer) -> Kind {
     let refused_at_entry = (2..=NO_ROOM).contains(&ours.number);
-    match entry {
+    match sound::refusal(case) {
         Some(answer) if answer != *ours => unlisted("the entry checks answer otherwise"),
-        None if refused_at_entry => unlisted("sound tables are refused at entry"),
-        Some(answer) if answer.number == BAD_SAFEPOINT => Kind::BadSafepoint(release(case)),
         Some(answer) => Kind::RefusedAtEntry(answer.number),
-        None => accepted(case, ours),
+        None if refused_at_entry => unlisted("sound tables are refused at entry"),
+        None => Kind::NotCompared,
     }
 }
 

@@ -3,7 +3,7 @@
 mod kind;
 mod tally;
 
-pub use kind::{classify, classify_claim, module_alone, Kind};
+pub use kind::{classify, classify_claim, classify_entry, module_alone, Kind};
 pub use tally::Tally;
 
 /// True where the published module was found when this was built.

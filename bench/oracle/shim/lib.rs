@@ -3,6 +3,7 @@
 //! The file is compiled from where it lies. What it imports is written here, each helper meaning
 //! what document 01 says: points, `next_use`, `last_use`, `covers`, `Intervals`, `SpillSlot`.
 #![allow(dead_code)]
+#![cfg_attr(not(module_at_hand), allow(unused_imports, unused_macros))]
 
 #[cfg(debian_crates)]
 extern crate log;

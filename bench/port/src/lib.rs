@@ -26,7 +26,8 @@ pub fn answer(case: &Case) -> Result<Answer, String> {
     if zeroed && result[..written].iter().any(|word| *word != 0) {
         return Err(format!("{four:?}: a word below {written} is not zero"));
     }
-    if written == 0 && (2..NO_RECORD).contains(&four.number) && work.iter().any(|w| *w != BEFORE) {
+    let at_entry = (2..NO_RECORD).contains(&four.number);
+    if at_entry && work.iter().any(|word| *word != BEFORE) {
         return Err(format!("{four:?}: the work area was written"));
     }
     let words = if four.number == DONE {

@@ -116,7 +116,7 @@ const REFERENCES: Plan = Plan {
 
 /// A sound case of a shape that the seed picks.
 pub fn any(seed: u64) -> Case {
-    let shape = SHAPES[(Rng::new(seed).next() % SHAPES.len() as u64) as usize];
+    let shape = SHAPES[(Rng::new(seed).draw() % SHAPES.len() as u64) as usize];
     case(shape, seed)
 }
 
@@ -176,7 +176,7 @@ fn lend_less(rng: &mut Rng, case: &mut Case) {
 /// Changes a bit, drops the last word, or doubles it.
 fn damage(rng: &mut Rng, table: &mut Vec<u32>) {
     if table.is_empty() || rng.chance(5) {
-        table.push(rng.next() as u32);
+        table.push(rng.draw() as u32);
     } else if rng.chance(10) {
         table.pop();
     } else {
@@ -221,6 +221,9 @@ pub fn case(shape: Shape, seed: u64) -> Case {
         Shape::Program => small_program(&mut rng),
     };
     draft.options = options(&mut rng);
+    if rng.chance(10) {
+        draft.shift(&mut rng);
+    }
     let mut case = draft.pack(&format!("{shape:?}:{seed}"));
     case.room = Some(room(&mut rng, &case));
     case
@@ -269,6 +272,32 @@ struct Value {
 }
 
 impl Draft {
+    /// Moves everything behind instructions that name nothing, mostly to the last points there are.
+    fn shift(&mut self, rng: &mut Rng) {
+        let most = MAX_INSTRUCTIONS - self.instructions;
+        let by = if rng.chance(70) {
+            most
+        } else {
+            rng.range(0, most)
+        };
+        self.instructions += by;
+        for fragment in self.fragments.iter_mut().flatten() {
+            *fragment = (fragment.0 + 2 * by, fragment.1 + 2 * by);
+        }
+        for value in &mut self.values {
+            value.start += 2 * by;
+            value.end += 2 * by;
+            value
+                .mentions
+                .iter_mut()
+                .for_each(|mention| mention.instruction += by);
+            value
+                .safepoints
+                .iter_mut()
+                .for_each(|safepoint| *safepoint += by);
+        }
+    }
+
     fn pack(&self, name: &str) -> Case {
         let mut case = Case::new(name);
         case.options = self.options;
@@ -376,8 +405,14 @@ fn spanned(start: u32, end: u32) -> std::ops::RangeInclusive<u32> {
 
 fn planned(rng: &mut Rng, plan: Plan) -> Draft {
     let instructions = rng.range(plan.instructions.0, plan.instructions.1);
-    let class_count = rng.range(plan.classes.0, plan.classes.1);
-    let classes = classes(rng, class_count, plan.registers);
+    let class_count = if rng.chance(5) {
+        rng.range(1, MAX_CLASSES as u32)
+    } else {
+        rng.range(plan.classes.0, plan.classes.1)
+    };
+    let most = MAX_REGISTERS as u32 / class_count;
+    let registers = (plan.registers.0.min(most), plan.registers.1.min(most));
+    let classes = classes(rng, class_count, registers);
     let registers: u32 = classes.iter().map(|class| class.count).sum();
     let mut row = |_: u32| {
         let count = rng.range(plan.fragments.0, plan.fragments.1);
@@ -482,7 +517,11 @@ pub struct Program {
 
 fn small_program(rng: &mut Rng) -> Draft {
     let program = Program {
-        values: rng.range(3, 60),
+        values: if rng.chance(3) {
+            rng.range(100, 400)
+        } else {
+            rng.range(3, 60)
+        },
         classes: rng.range(1, 3),
         registers: rng.range(2, 9),
         reach: rng.range(2, 20),

@@ -13,7 +13,7 @@ impl Rng {
         Rng { state: seed }
     }
 
-    pub fn next(&mut self) -> u64 {
+    pub fn draw(&mut self) -> u64 {
         self.state = self.state.wrapping_add(STEP);
         let mut z = self.state;
         z = (z ^ z >> 30).wrapping_mul(MIX_1);
@@ -25,7 +25,7 @@ impl Rng {
     pub fn range(&mut self, low: u32, high: u32) -> u32 {
         debug_assert!(low <= high);
         let width = u64::from(high - low) + 1;
-        low + (self.next() % width) as u32
+        low + (self.draw() % width) as u32
     }
 
     /// True `percent` times in a hundred.
@@ -34,6 +34,6 @@ impl Rng {
     }
 
     pub fn flag(&mut self) -> bool {
-        self.next() & 1 == 1
+        self.draw() & 1 == 1
     }
 }

@@ -1,0 +1,5 @@
+pub mod PieceLaws
+pub mod ListLaws
+pub mod RunLaws
+pub mod UseLaws
+pub mod TableLaws

@@ -3,3 +3,4 @@ pub mod ListLaws
 pub mod RunLaws
 pub mod UseLaws
 pub mod TableLaws
+pub mod Parts

@@ -4,3 +4,4 @@ pub mod RunLaws
 pub mod UseLaws
 pub mod TableLaws
 pub mod Parts
+pub mod Changes

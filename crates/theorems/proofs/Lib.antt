@@ -5,3 +5,4 @@ pub mod UseLaws
 pub mod TableLaws
 pub mod Parts
 pub mod Changes
+pub mod Slots

@@ -6,3 +6,4 @@ pub mod TableLaws
 pub mod Parts
 pub mod Changes
 pub mod Slots
+pub mod Spill

@@ -7,3 +7,4 @@ pub mod Parts
 pub mod Changes
 pub mod Slots
 pub mod Spill
+pub mod FragmentLaws

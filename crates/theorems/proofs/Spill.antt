@@ -32,6 +32,7 @@ use Rattle.rules.proofs.Keeps.{splitState}
 use Rattle.theorems.specs.Invariant.{Good, at, firstPoint, lastPoint, Shape, Held, Inv, Cut, Clear, SpilledAt}
 use Rattle.theorems.proofs.RunLaws.{CutAt}
 use Rattle.theorems.proofs.UseLaws.{Least, Greatest, NextIs, LastIs, next-is, last-is}
+use Rattle.theorems.proofs.FragmentLaws.{within-true}
 use Rattle.theorems.proofs.PieceLaws.{placed, length-placed, at-placed, at-unplaced, length-split, at-old, at-parent, at-child}
 use Rattle.theorems.proofs.TableLaws.{PointsOf, at-points, has-first, has-last, Whose, whose, spans, cut-mentions}
 use Rattle.theorems.proofs.Changes.{Or, nowhere-slot, register-slot, inv-split, inv-enqueue, inv-leave, inv-settle}
@@ -61,20 +62,12 @@ good-queue g s k p Q h =
     good-on (λ t. Q (enqueue t (newRecord s))) Q (split g s k p) (λ t. goes (enqueue t (newRecord s))) (good-split g s k p (λ t. Q (enqueue t (newRecord s))) h) (λ t k. k)
 
 -- ---- a strategy's pick lies in from..to
-within-both : (a e p : ℕ) → within a e p ≡ true → (a ≤ p) × (p ≤ e)
-within-both a e p h = go (leb a p) (leb p e) refl refl h
-  where
-    go : (b c : Bool) → leb a p ≡ b → leb p e ≡ c → b && c ≡ true → (a ≤ p) × (p ≤ e)
-    go true true d k o = (leb-true a p d, leb-true p e k)
-    go true false d k o = let z : _≡_ {A = ℕ} 0 1 = cc in absurd (omega arith)
-    go false c d k o = let z : _≡_ {A = ℕ} 0 1 = cc in absurd (omega arith)
-
 pub pick-within : (y : Strategy) (a b : ℕ) → a ≤ b → (a ≤ pick y a b) × (pick y a b ≤ b)
 unfolding pick
 pick-within y a b h = go (candidate a b y)
   where
     by : (x : ℕ) (c : Bool) → within a b x ≡ c → (a ≤ choose c x a) × (choose c x a ≤ b)
-    by x true e = within-both a b x e
+    by x true e = within-true a b x e
     by x false e = (omega arith, h)
 
     go : (z : Spot) → (a ≤ orFrom a b z) × (orFrom a b z ≤ b)

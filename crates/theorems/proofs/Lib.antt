@@ -8,3 +8,4 @@ pub mod Changes
 pub mod Slots
 pub mod Spill
 pub mod FragmentLaws
+pub mod ChoiceLaws

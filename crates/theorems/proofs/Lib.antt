@@ -9,3 +9,4 @@ pub mod Slots
 pub mod Spill
 pub mod FragmentLaws
 pub mod ChoiceLaws
+pub mod Safepoints

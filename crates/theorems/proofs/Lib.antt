@@ -10,3 +10,4 @@ pub mod Spill
 pub mod FragmentLaws
 pub mod ChoiceLaws
 pub mod Safepoints
+pub mod Steps

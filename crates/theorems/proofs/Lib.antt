@@ -11,3 +11,4 @@ pub mod FragmentLaws
 pub mod ChoiceLaws
 pub mod Safepoints
 pub mod Steps
+pub mod Loop

@@ -1,2 +1,3 @@
 -- Facts for proofs over the definitions of `rules`: what holds of every state of a run.
 pub mod Invariant
+pub mod Reach

@@ -12,3 +12,4 @@ pub mod ChoiceLaws
 pub mod Safepoints
 pub mod Steps
 pub mod Loop
+pub mod Rules

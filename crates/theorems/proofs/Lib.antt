@@ -13,3 +13,4 @@ pub mod Safepoints
 pub mod Steps
 pub mod Loop
 pub mod Rules
+pub mod Done

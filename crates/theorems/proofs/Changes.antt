@@ -28,7 +28,7 @@ use Rattle.theorems.proofs.RunLaws.{CutAt}
 use Rattle.theorems.proofs.ListLaws.{mem-last, mem-left, insert-new, insert-old, insert-is, asc-low, asc-from, asc-insert, keep-has}
 use Rattle.theorems.proofs.PieceLaws.{placed, length-placed, at-placed, at-unplaced, placed-ind, length-split, at-old, at-parent, at-child, split-ind}
 use Rattle.theorems.proofs.TableLaws.{PointsOf, at-points, cut-mentions, cut-safepoints}
-use Rattle.theorems.proofs.Parts.{core-split, core-placed}
+use Rattle.theorems.proofs.Parts.{split-same, core-split, core-placed}
 
 -- those of X, and j
 abbrev pub Or : (ℕ → Type 0) → ℕ → ℕ → Type 0
@@ -93,15 +93,6 @@ module _ (g : Given) (ok : Accepted (g .tables)) where
   held-parent l k p qs av hs q s c b (Register r) h = record { usable = h .usable; begun = h .begun; tracked = λ e. h .tracked (omega arith); unfixed = λ f o x u v. h .unfixed f o x u (omega arith); safe = safe-parent q p s c (h .safe) }
   held-parent l k p qs av hs q s c b (Slot t) h = (omega (arith, h .0, cut-mentions T ok q s p .high), h .1)
 
-  -- an old record keeps its interval, start and place
-  split-same : (ps : List Piece) (k p m : ℕ) → k < length ps → m < length ps
-      → (at (splitPieces ms sp ps k p) m .interval ≡ at ps m .interval) × (at (splitPieces ms sp ps k p) m .start ≡ at ps m .start) × (at (splitPieces ms sp ps k p) m .place ≡ at ps m .place)
-  split-same ps k p m h a = go (ℕ-discrete m k)
-    where
-      go : Dec (m ≡ k) → (at (splitPieces ms sp ps k p) m .interval ≡ at ps m .interval) × (at (splitPieces ms sp ps k p) m .start ≡ at ps m .start) × (at (splitPieces ms sp ps k p) m .place ≡ at ps m .place)
-      go (yes e) = rw (e, at-parent ms sp ps k p h) (refl, refl, refl)
-      go (no n) = rw (at-old ms sp ps k p m a n) (refl, refl, refl)
-
   -- Lemma Split: the child is left out until it is queued or spilled
   pub inv-split : (l : ℕ) (X : ℕ → Type 0) (s : State) (k p : ℕ) → Inv g l X s → k < length (s .pieces) → Cut g (at (s .pieces) k) p → X k ⊎ Clear g (at (s .pieces) k) p
       → length (s .pieces) < g .capacity → Inv g l (Or X (length (s .pieces))) (splitState g s k p)
@@ -119,7 +110,7 @@ module _ (g : Given) (ok : Accepted (g .tables)) where
             (λ j a d x. split-ind ms sp (λ m b. (Or X n m → ⊥) → Clash j (at ps j) m b) ps k p h (λ y r z e f u v. i .alone j a (λ o. x (inl o)) k h (λ o. y (inl o)) r z e f u (omega (arith, c .below)))
             (λ y r z e f u v. nowhere-register _ r refl f) (λ m b o y. i .alone j a (λ o. x (inl o)) m b (λ o. y (inl o))));
         ordered = i .ordered;
-        queued = λ x m. let q = i .queued x m in let o = split-same ps k p (recordOfKey x) h (q .here) in record { here = omega (arith, q .here, longer); free = o .2 ∙ q .free; key = rw (o .1) (q .key) };
+        queued = λ x m. let q = i .queued x m in let o = split-same g ok ps k p (recordOfKey x) h (q .here) in record { here = omega (arith, q .here, longer); free = o .2 ∙ q .free; key = rw (o .1) (q .key) };
         waiting = λ x m. ⊎-elim (λ (y : X (recordOfKey x)). i .waiting x m y) (λ (y : recordOfKey x ≡ n). omega (arith, i .queued x m .here));
         slots = i .slots;
         used = λ v t e. moved v t (i .used v t e);
@@ -138,7 +129,7 @@ module _ (g : Given) (ok : Accepted (g .tables)) where
       longer = length-split ms sp (s .pieces) k p
 
       moved : (v t : ℕ) → IsSpilled (s .pieces) v t → IsSpilled (splitPieces ms sp (s .pieces) k p) v t
-      moved v t (j, a, b, d) = let o = split-same (s .pieces) k p j h a in (j, omega (arith, longer), o .0 ∙ b, o .2 ∙ d)
+      moved v t (j, a, b, d) = let o = split-same g ok (s .pieces) k p j h a in (j, omega (arith, longer), o .0 ∙ b, o .2 ∙ d)
 
   -- a record without a place is queued
   pub inv-enqueue : (l : ℕ) (X : ℕ → Type 0) (s : State) (m : ℕ) → Inv g l (Or X m) s → (X m → ⊥) → m < length (s .pieces) → m < 16384 → at (s .pieces) m .place ≡ Nowhere → l ≤ at (s .pieces) m .start

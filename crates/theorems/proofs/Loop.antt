@@ -100,6 +100,8 @@ module _ (g : Given) (ok : Accepted (g .tables)) (small : g .capacity ≤ 16384)
         core =
             record {
               room = omega (arith, long);
+              all = omega (arith, long);
+              firsts = λ k h. rw (whole k h) (refl, refl);
               shape = λ k h. rw (whole k (omega (arith, long))) (shape-whole k (omega (arith, long)));
               parts =
                   record {

@@ -57,6 +57,15 @@ module _ (g : Given) (ok : Accepted (g .tables)) where
           safes = rw en (run-child (s .safes) (c .above) (c .below) (λ i a b z. z) n);
         }
 
+  -- an old record keeps its interval, start and place
+  pub split-same : (ps : List Piece) (k p m : ℕ) → k < length ps → m < length ps
+      → (at (splitPieces ms sp ps k p) m .interval ≡ at ps m .interval) × (at (splitPieces ms sp ps k p) m .start ≡ at ps m .start) × (at (splitPieces ms sp ps k p) m .place ≡ at ps m .place)
+  split-same ps k p m h a = go (ℕ-discrete m k)
+    where
+      go : Dec (m ≡ k) → (at (splitPieces ms sp ps k p) m .interval ≡ at ps m .interval) × (at (splitPieces ms sp ps k p) m .start ≡ at ps m .start) × (at (splitPieces ms sp ps k p) m .place ≡ at ps m .place)
+      go (yes e) = rw (e, at-parent ms sp ps k p h) (refl, refl, refl)
+      go (no n) = rw (at-old ms sp ps k p m a n) (refl, refl, refl)
+
   module _ (ps : List Piece) (i : Parts T ps) (k : ℕ) (h : k < length ps) where
     parts-split : (p : ℕ) → at ps k .start < p → p ≤ at ps k .end → Parts T (splitPieces ms sp ps k p)
     parts-split p above below =
@@ -111,6 +120,8 @@ module _ (g : Given) (ok : Accepted (g .tables)) where
         let s : Shape T (at ps k) = i .shape k h in
         record {
           room = omega (arith, length-split ms sp ps k p);
+          all = omega (arith, i .all, length-split ms sp ps k p);
+          firsts = λ m a. let o = split-same ps k p m h (omega (arith, i .all)) in (o .0 ∙ i .firsts m a .0, o .1 ∙ i .firsts m a .1);
           shape = split-ind ms sp (λ j q. Shape T q) ps k p h (shape-parent (at ps k) p s c) (shape-child (at ps k) p s c) (λ j a n. i .shape j a);
           parts = parts-split ps (i .parts) k h p (c .above) (c .below);
         }
@@ -119,6 +130,8 @@ module _ (g : Given) (ok : Accepted (g .tables)) where
     core-placed w =
         record {
           room = omega (arith, i .room, length-placed ps k w);
+          all = omega (arith, i .all, length-placed ps k w);
+          firsts = λ m a. elim (ℕ-discrete m k) [ yes e ↦ rw (e, at-placed ps k w h, ← e) (i .firsts m a) | no n ↦ rw (at-unplaced ps k w m n) (i .firsts m a) ];
           shape = placed-ind (λ j q. Shape T q) ps k w (i .shape k h) (λ j a n. i .shape j a);
           parts = parts-placed ps (i .parts) k h w;
         }

@@ -140,6 +140,8 @@ module _ (T : Tables) where
   -- after every single change: A1 to A4
   pub record Core (cap : ℕ) (ps : List Piece) : Type 0 where
     pub room : length ps ≤ cap
+    pub all : intervalCount (T .intervals) ≤ length ps
+    pub firsts : (k : ℕ) → k < intervalCount (T .intervals) → (at ps k .interval ≡ k) × (at ps k .start ≡ interval T k .start)
     pub shape : (k : ℕ) → k < length ps → Shape (at ps k)
     pub parts : Parts ps
 

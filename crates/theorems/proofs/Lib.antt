@@ -14,3 +14,5 @@ pub mod Steps
 pub mod Loop
 pub mod Rules
 pub mod Done
+pub mod Defined
+pub mod Demands

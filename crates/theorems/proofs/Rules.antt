@@ -26,8 +26,7 @@ use Rattle.rules.specs.Checker.{HoldBelow}
 use Rattle.theorems.specs.Invariant.{NoOne, at, firstPoint, lastPoint, useAt, Shape, InRegOf, Held, Inv}
 use Rattle.theorems.proofs.RunLaws.{run-has}
 use Rattle.theorems.proofs.TableLaws.{points-at, mentions-rise, safepoints-rise}
-use Rattle.theorems.proofs.FragmentLaws.{in-table}
-use Rattle.theorems.proofs.Slots.{homes-most, slot-rounds}
+use Rattle.theorems.proofs.Defined.{in-bounds}
 
 -- ---- records are read back from the words written
 pub record Fits (q : Piece) : Type 0 where
@@ -65,33 +64,25 @@ module _ (g : Given) (ok : Accepted (g .tables)) (l : ℕ) (s : State) (i : Inv 
   in-slot : (k t : ℕ) → k < length (s .pieces) → at (s .pieces) k .place ≡ Slot t → (at (s .pieces) k .mentions .count ≡ 0) × (getD (s .homes) (at (s .pieces) k .interval) Unspilled ≡ Spilled t)
   in-slot k t h e = rw e at (here k h)
 
-  -- D3: "slots and totals": a total is at most 32,768, a slot below it
-  pub total-most : s .total ≤ 32768
-  total-most = omega (arith, i .slots .few, homes-most (s .homes), i .slots .long, ok .limits .intervals)
-
-  pub slot-below : (k t : ℕ) → k < length (s .pieces) → at (s .pieces) k .place ≡ Slot t → t < 32768
-  slot-below k t h e = omega (arith, total-most, i .slots .under _ t (in-slot k t h e .1), slot-rounds T 0 (at (s .pieces) k .interval) .some)
-
   -- every record has its place
   nowhere : (k : ℕ) → k < length (s .pieces) → at (s .pieces) k .place ≢ Nowhere
   nowhere k h e = let o = rw (e, done) at (here k h) in List·Memᴰ·not-nil (o .1)
 
   pub fits : (k : ℕ) → k < length (s .pieces) → Fits (at (s .pieces) k)
   fits k h =
-      let q = shape k h in
-      let v = ok .intervals (at (s .pieces) k .interval) (q .named) in
+      let b = in-bounds g ok l s i k h in
       let n = by (at (s .pieces) k .place) refl in
       record {
-        row = record { kind = n .0; interval = omega (arith, q .named, ok .limits .intervals); spare = omega arith };
+        row = record { kind = n .0; interval = omega (arith, b .interval, ok .limits .intervals); spare = omega arith };
         number = n .1;
-        first = omega (arith, q .fits, q .stops, v .inside, ok .limits .instructions);
-        last = omega (arith, q .stops, v .inside, ok .limits .instructions);
+        first = omega (arith, b .ordered, b .width);
+        last = omega (arith, b .width);
       }
     where
       by : (w : Place) → at (s .pieces) k .place ≡ w → (kindOf w < 4) × (numberOf w < 2 ^ 16)
       by Nowhere e = (omega arith, omega arith)
-      by (Register r) e = (omega arith, omega (arith, in-table T ok (at (s .pieces) k .interval) r (shape k h .named) (in-register k r h e .usable), ok .limits .registers))
-      by (Slot t) e = (omega arith, omega (arith, slot-below k t h e))
+      by (Register r) e = (omega arith, omega (arith, in-bounds g ok l s i k h .register r e, ok .limits .registers))
+      by (Slot t) e = (omega arith, omega (arith, in-bounds g ok l s i k h .slot t e))
 
   -- ---- a claim that holds these records
   module _ (c : Claim) (count : c .count ≡ length (s .pieces)) (total : c .total ≡ s .total) (is : (k : ℕ) → k < length (s .pieces) → recordAt (c .words) k ≡ recordFor (at (s .pieces) k)) where

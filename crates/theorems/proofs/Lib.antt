@@ -15,4 +15,5 @@ pub mod Loop
 pub mod Rules
 pub mod Done
 pub mod Defined
+pub mod Pops
 pub mod Demands

@@ -13,7 +13,7 @@ use Rattle.rules.specs.Steps.{step}
 use Rattle.rules.specs.Run.{pop, run}
 use Rattle.rules.proofs.Keeps.{All, on, off, Closed, step-keeps}
 use Rattle.theorems.specs.Invariant.{Good, NoOne, Inv}
-use Rattle.theorems.specs.Reach.{Passes, here, later, popsFrom, onwards, popsOf, Once}
+use Rattle.theorems.specs.Reach.{Passes, here, later, popsFrom, onwards, popsOf, Once, PoppedOnce}
 use Rattle.theorems.proofs.ListLaws.{insert-old, insert-is}
 use Rattle.theorems.proofs.Changes.{Among, Or, inv-pop}
 use Rattle.theorems.proofs.Loop.{turn-keeps}
@@ -82,6 +82,12 @@ module _ (g : Given) (small : g .capacity ≤ 16384) where
   passed-popped fuel left s u t (here f v) e d y m = all-popped left u t e d y m
   passed-popped fuel left s u t (later f v x xs w l z a b p) e d y m = rw (a, b) (List·Memᴰ·tail (passed-popped f left w u t p e d y m))
 
+  -- a run that is done is done from each state on its way
+  passes-run : (fuel left : ℕ) (s u t : State) → Passes g fuel s left u → run fuel g s ≡ goes t → run left g u ≡ goes t
+  unfolding run pop
+  passes-run fuel left s u t (here f v) e = e
+  passes-run fuel left s u t (later f v x xs w l z a b p) e = passes-run f left w u t p (rw (a, b) at e)
+
   -- no record is popped twice
   pub popped-once : Accepted (g .tables) → (fuel l : ℕ) (s : State) → Inv g l NoOne s → Once (popsOf fuel g s)
   unfolding popsOf
@@ -101,3 +107,6 @@ module _ (g : Given) (small : g .capacity ≤ 16384) where
             ih (x / 16384) t j,
           )
           by z (off a d) j = (λ y m. absurd (List·Memᴰ·not-nil m), tt)
+
+  pub done-popped : Accepted (g .tables) → (fuel l : ℕ) (s t : State) → Inv g l NoOne s → run fuel g s ≡ goes t → t .queue ≡ [] → PoppedOnce g fuel s
+  done-popped ok fuel l s t i e d = record { once = popped-once ok fuel l s i; every = λ left u p y m. passed-popped fuel left s u t p (passes-run fuel left s u t p e) d y m }

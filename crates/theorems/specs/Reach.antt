@@ -32,3 +32,8 @@ popsOf (suc fuel) g s = popsFrom (s .queue) (λ x xs. onwards (step g (withQueue
 abbrev pub Once : List ℕ → Type 0
 Once [] = Unit
 Once (x ∷ xs) = ((y : ℕ) → List·Memᴰ y xs → recordOfKey y ≢ recordOfKey x) × Once xs
+
+-- "every queued record was popped, once": of a run with `fuel` pops before it from s
+pub record PoppedOnce (g : Given) (fuel : ℕ) (s : State) : Type 0 where
+  pub once : Once (popsOf fuel g s)
+  pub every : (left : ℕ) (u : State) → Passes g fuel s left u → (y : ℕ) → List·Memᴰ y (u .queue) → List·Memᴰ y (popsOf fuel g s)

@@ -16,4 +16,5 @@ pub mod Rules
 pub mod Done
 pub mod Defined
 pub mod Pops
+pub mod Derived
 pub mod Demands

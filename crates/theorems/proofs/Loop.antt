@@ -21,10 +21,11 @@ use Rattle.rules.specs.Steps.{step}
 use Rattle.rules.specs.Run.{wholeInterval, unqueued, enqueueAll, begin, pop, run}
 use Rattle.theorems.specs.Invariant.{Good, NoOne, at, spilledHomes, Shape, Held, Queued, Slots, Inv, firstPoint, lastPoint}
 use Rattle.theorems.specs.Reach.{Reached, begins, pops}
+use Rattle.theorems.specs.Proper.{StepOk}
 use Rattle.theorems.proofs.TableLaws.{points-at}
 use Rattle.theorems.proofs.Changes.{Or, inv-enqueue, inv-pop}
 use Rattle.theorems.proofs.Spill.{good-on}
-use Rattle.theorems.proofs.Steps.{step-keeps}
+use Rattle.theorems.proofs.Steps.{step-keeps, step-ok}
 
 no-home : (n v t : ℕ) → getD (replicate n Unspilled) v Unspilled ≡ Spilled t → ⊥
 no-home zero v t e = let q : _≡_ {A = ℕ} 0 1 = cc in omega arith
@@ -153,6 +154,14 @@ module _ (g : Given) (ok : Accepted (g .tables)) (small : g .capacity ≤ 16384)
       let q = i .queued x m in
       let b = pop-start l s x i m in
       step-keeps g ok small (x / 16384) (recordOfKey x) (withQueue xs s) (rw b at (inv-pop g ok l s NoOne x xs small i e)) (q .here) (q .free) b
+
+  -- each split and each spill of the turn is proper
+  pub turn-ok : (l : ℕ) (s : State) (x : ℕ) (xs : List ℕ) → Inv g l NoOne s → s .queue ≡ x ∷ xs → StepOk g (withQueue xs s) (recordOfKey x)
+  turn-ok l s x xs i e =
+      let m : List·Memᴰ x (s .queue) = rw e (List·Memᴰ·head refl) in
+      let q = i .queued x m in
+      let b = pop-start l s x i m in
+      step-ok g ok small (x / 16384) (recordOfKey x) (withQueue xs s) (rw b at (inv-pop g ok l s NoOne x xs small i e)) (q .here) (q .free) b
 
   -- every state at the loop's head has it
   pub reached-inv : N ≤ g .capacity → (l : ℕ) (s : State) → Reached g l s → Inv g l NoOne s

@@ -1,10 +1,10 @@
 -- Laws of the checks in order: what the earlier checks give to the later, and how the answer is the first refusal.
 -- Assumes nothing.
-use Prim.Native.Nat.{ℕ, _+_, _≤_, _<_}
-use mathlib.Core.Path.{_≡_, refl, sym, ap, _∙_}
+use Prim.Native.Nat.{ℕ, _≤_}
+use mathlib.Core.Path.{_≡_, sym, ap, _∙_}
 use mathlib.Core.List.{List}
 use lib.ListN.{length}
-use Rattle.words.specs.Packed.{intervalAt, intervalCount}
+use Rattle.words.specs.Packed.{intervalCount}
 use Rattle.rules.specs.declared.Answer.{Answer}
 use Rattle.rules.specs.declared.Answer.the-variants.{BadClass, BadInterval, BadMention, BadSafepoint, BadFixed}
 use Rattle.rules.specs.declared.Check.{Check}
@@ -16,7 +16,7 @@ use Rattle.rules.specs.Sound.{andThen, refuseAt, checkLimits, badClass, badInte
 use Rattle.rules.specs.Accepted.{Limits}
 use Rattle.rules.proofs.Accepted.{limits-kept, intervals-kept, mentions-kept}
 use Rattle.tables.specs.Given.{tables, classTables, intervalTables, mentionTables, safepointTables, fixedTables}
-use Rattle.tables.specs.Entries.{Ranged, Ascending, Placed}
+use Rattle.tables.specs.Entries.{Ranged, Placed}
 
 -- the checks from each one on
 unfoldable pub fromFixed : Tables → Check

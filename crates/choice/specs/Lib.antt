@@ -1,0 +1,2 @@
+-- Positions by register.
+pub mod Row

@@ -1,0 +1,5 @@
+pub mod FitLaws
+pub mod SplitLaws
+pub mod SpillLaws
+pub mod TurnLaws
+pub mod SpillingLaws

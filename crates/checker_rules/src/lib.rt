@@ -8,6 +8,8 @@ pub mod rule2;
 pub mod rule3;
 pub mod rule4;
 pub mod rule5;
+pub mod rule6;
+pub mod rule7;
 
 // Whose turn it is in the order: a record, or nobody's any more.
 pub enum Turn {

@@ -2,6 +2,7 @@
 use crate::Seat;
 use crate::positions;
 use crate::rows;
+use activity::REGISTERS;
 use activity::Tracker;
 use rules::Piece;
 use rules::Place;
@@ -42,13 +43,13 @@ fn seat_of(place: Place, first: usize, stop: usize) -> Seat
 
 // The registers that active pieces hold are blocked.
 pub fn held_row(
-    row: [Pos; 64],
+    row: [Pos; REGISTERS],
     work: &[u32],
     cap: usize,
     counts: Counts,
     first: usize,
     count: usize,
-) -> [Pos; 64]
+) -> [Pos; REGISTERS]
     requires { ⌜ Ready cap (now work) counts ⌝ }
     requires { ⌜ first + count ≤ 64 ⌝ }
     ensures { λ o. ⌜ HolderRow (heldPos row) (stateOf cap (now (work .entry)) counts) first count o ⌝ }
@@ -80,7 +81,7 @@ pub fn free_until(
     first: usize,
     count: usize,
     q: Piece,
-) -> [Pos; 64]
+) -> [Pos; REGISTERS]
     requires { ⌜ Ready cap (now work) counts ⌝ }
     requires { ⌜ Facing (now registers) (now fragments) (q .start) first count t ⌝ }
     ensures { λ o. ⌜ FreeRow (now (registers .entry)) (now (fragments .entry)) (stateOf cap (now (work .entry)) counts) q first count o ⌝ }
@@ -103,7 +104,7 @@ fn use_position(mentions: &[u32], range: Range, start: u16) -> Pos
 
 // Step 4: the next uses of the active pieces, below what their registers' fragments say: `block` is the class's fixed row.
 pub fn next_use_row(
-    block: [Pos; 64],
+    block: [Pos; REGISTERS],
     work: &[u32],
     cap: usize,
     counts: Counts,
@@ -111,7 +112,7 @@ pub fn next_use_row(
     first: usize,
     count: usize,
     start: u16,
-) -> [Pos; 64]
+) -> [Pos; REGISTERS]
     requires { ⌜ Ready cap (now work) counts ⌝ }
     requires { ⌜ first + count ≤ 64 ⌝ }
     requires { ⌜ Runs (stateOf cap (now work) counts) (now mentions) ⌝ }

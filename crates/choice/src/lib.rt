@@ -3,6 +3,9 @@ pub mod held;
 pub mod positions;
 pub mod rows;
 
+// Limits: 8 classes.
+pub const CLASSES: usize = 8;
+
 // The register of a place, if it is one of the class.
 pub enum Seat {
     Outside,

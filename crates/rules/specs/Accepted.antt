@@ -1,4 +1,4 @@
--- Document 01, "Sound": what the tables that pass the checks 3 to 8 are, as propositions. The checks themselves are in Sound; proofs/Accepted shows that they give this.
+-- A fact for proofs: what they want of tables that pass the checks 3 to 8 (document 01, "Sound"), as propositions. The checks are in Sound, and proofs/Accepted shows that they give this; it is less than they say.
 use Prim.Native.Nat.{ℕ, _+_, _*_, _≤_, _<_}
 use mathlib.Core.Path.{_≡_}
 use mathlib.Core.Bool.{Bool, true}

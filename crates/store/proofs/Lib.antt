@@ -3,3 +3,4 @@ pub mod WordLaws
 pub mod CellLaws
 pub mod SaneLaws
 pub mod StateLaws
+pub mod AreaLaws

@@ -1,7 +1,7 @@
 -- Each operation on a state keeps it sane. Pure laws of `rules`' state: nothing here speaks of words or cells.
 -- Assumes nothing.
-use Prim.Native.Nat.{ℕ, zero, suc, _+_, _-_, _*_, _/_, _%_, _^_, _≤_, _<_}
-use mathlib.Core.Path.{_≡_, refl, sym, ap, _∙_}
+use Prim.Native.Nat.{ℕ, zero, suc, _+_, _-_, _*_, _^_, _≤_, _<_}
+use mathlib.Core.Path.{_≡_, refl, ap}
 use mathlib.Core.Bool.{Bool, true, false}
 use mathlib.Core.List.{List, [], _∷_, _++_}
 use native.Mathlib.Nat.{not-suc-le-zero, le-of-suc-le-suc}
@@ -138,10 +138,3 @@ round-most total c (suc zero) h m = omega arith
 round-most total c (suc (suc zero)) h m = omega arith
 round-most total c (suc (suc (suc zero))) h m = omega arith
 round-most total c (suc (suc (suc (suc l)))) h m = absurd (omega arith)
-
-pub size-most : (l : ℕ) → l < 4 → 2 ^ l ≤ 8
-size-most zero h = omega arith
-size-most (suc zero) h = omega arith
-size-most (suc (suc zero)) h = omega arith
-size-most (suc (suc (suc zero))) h = omega arith
-size-most (suc (suc (suc (suc l)))) h = absurd (omega arith)

@@ -1,13 +1,11 @@
 -- What a piece's and a home's words read as, and that what is packed is read back.
 -- Assumes nothing.
-use Prim.Native.Nat.{ℕ, _+_, _*_, _/_, _%_, _^_, _≤_, _<_}
+use Prim.Native.Nat.{ℕ, _+_, _/_, _%_, _^_, _<_}
 use mathlib.Core.Path.{_≡_, refl, sym, ap, _∙_}
 use native.Mathlib.Omega.{arith}
-use lib.Dec.{eqb}
 use borrow.Author.Tests.{eq-eqb, ne-eqb}
-use Rattle.words.specs.Choose.{choose}
 use Rattle.words.specs.Field.{join}
-use Rattle.words.specs.Packed.{recordIn, recordRow, rangeIn, rangeWord, RecordFits}
+use Rattle.words.specs.Packed.{recordIn, rangeIn, rangeWord}
 use Rattle.words.specs.declared.Record.{Record}
 use Rattle.words.specs.declared.Range.{Range}
 use Rattle.words.proofs.Field.{bits-lt}

@@ -2,12 +2,12 @@
 -- Of 8 words per record of capacity: pieces, rows of 4 words, then one word each for the heap, the homes and the active records; the rest is free.
 use Prim.Native.Nat.{ℕ, _+_, _-_, _*_, _/_, _%_, _≤_, _<_}
 use mathlib.Core.Path.{_≡_}
-use mathlib.Core.List.{List, [], _∷_}
+use mathlib.Core.List.{List, _∷_}
 use lib.ListN.{length, getD, take}
 use lib.Dec.{eqb}
 use Rattle.words.specs.Choose.{choose}
 use Rattle.words.specs.Rows.{tab}
-use Rattle.words.specs.Packed.{recordIn, recordRow, rangeIn, rangeWord}
+use Rattle.words.specs.Packed.{recordIn, rangeIn}
 use Rattle.words.specs.declared.Record.{Record}
 use Rattle.rules.specs.declared.Piece.{Piece}
 use Rattle.rules.specs.declared.Place.{Place}
@@ -82,12 +82,7 @@ withHomes hs c = record { pieces = c .pieces; heap = c .heap; homes = hs; active
 abbrev pub withActive : List ℕ → Cells → Cells
 withActive js c = record { pieces = c .pieces; heap = c .heap; homes = c .homes; active = js }
 
--- Work area: at least 8 words per record of capacity plus 256; the capacity is at most 16,384.
-pub record Room (cap : ℕ) (ws : List ℕ) : Type 0 where
-  pub most : cap ≤ 16384
-  pub long : cap * 8 + 256 ≤ length ws
-
--- entry k of an area with room
+-- entry k of an area with room. Work area: at least 8 words per record of capacity plus 256; the capacity is at most 16,384.
 pub record At (cap : ℕ) (ws : List ℕ) (k : ℕ) : Type 0 where
   pub most : cap ≤ 16384
   pub long : cap * 8 + 256 ≤ length ws

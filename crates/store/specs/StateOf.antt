@@ -2,7 +2,8 @@
 use Prim.Native.Nat.{ℕ, suc, _+_, _*_, _^_, _≤_, _<_}
 use mathlib.Core.Path.{_≡_}
 use mathlib.Core.List.{List, [], _∷_}
-use lib.ListN.{length, getD, take}
+use lib.ListN.{length, getD, take, replicate}
+use Rattle.words.specs.Rows.{tab}
 use Rattle.words.specs.Packed.{intervalCount}
 use Rattle.rules.specs.declared.Piece.{Piece}
 use Rattle.rules.specs.declared.Place.{Place}
@@ -10,6 +11,7 @@ use Rattle.rules.specs.declared.Home.{Home}
 use Rattle.rules.specs.declared.Home.the-variants.{Unspilled, Spilled}
 use Rattle.rules.specs.State.{State, withQueue, withPlace, piece, recordOfKey}
 use Rattle.rules.specs.Slots.{roundUp}
+use Rattle.rules.specs.Run.{wholeInterval, begin}
 use Rattle.queue.specs.Heap.{Ord, sort}
 use Rattle.store.specs.Cells.{Cells, cells}
 use Rattle.store.specs.declared.Counts.{Counts}
@@ -114,11 +116,22 @@ pub record PoppedAs (cap : ℕ) (ws ws′ : List ℕ) (c : Counts) (r : Popped) 
   pub intervals : r .counts .intervals ≡ c .intervals
   pub long : length ws′ ≡ length ws
 
+-- virtual register v, of record k, has this home
+pub record HomeOf (cap : ℕ) (ws : List ℕ) (c : Counts) (k v : ℕ) (h : Home) : Type 0 where
+  pub owner : v ≡ piece (stateOf cap ws c) k .interval
+  pub within : v < c .intervals
+  pub is : h ≡ getD (stateOf cap ws c .homes) v Unspilled
+
 -- virtual register v, of record k, has no slot yet
 pub record Homeless (cap : ℕ) (ws : List ℕ) (c : Counts) (k v : ℕ) : Type 0 where
   pub owner : v ≡ piece (stateOf cap ws c) k .interval
   pub within : v < c .intervals
   pub unspilled : getD (stateOf cap ws c .homes) v Unspilled ≡ Unspilled
+
+-- a slot size by its log2
+pub record Size (l r : ℕ) : Type 0 where
+  pub is : r ≡ 2 ^ l
+  pub most : r ≤ 8
 
 -- a total rounded up to a multiple of 2 ^ l
 pub record Rounded (total l r : ℕ) : Type 0 where
@@ -126,8 +139,29 @@ pub record Rounded (total l r : ℕ) : Type 0 where
   pub most : r ≤ 32760
 
 -- what `load` asks: room, and intervals within it
-pub record Loads (cap : ℕ) (is ws : List ℕ) : Type 0 where
+pub record Loads (cap : ℕ) (t ws : List ℕ) : Type 0 where
   pub most : cap ≤ 16384
   pub long : cap * 8 + 256 ≤ length ws
-  pub inside : intervalCount is ≤ cap
-  pub few : intervalCount is ≤ 4096
+  pub inside : intervalCount t ≤ cap
+  pub few : intervalCount t ≤ 4096
+
+-- the piece of the whole interval v
+pub record Whole (t : List ℕ) (v : ℕ) (r : Piece) : Type 0 where
+  pub is : r ≡ wholeInterval t v
+  pub small : r .interval < 4096
+
+-- the first n pieces are the whole intervals, and no virtual register of the first n has a slot
+pub record Filled (cap : ℕ) (t ws ws′ : List ℕ) (n : ℕ) : Type 0 where
+  pub pieces : take n (cells cap ws′ .pieces) ≡ tab n (wholeInterval t)
+  pub homes : take n (cells cap ws′ .homes) ≡ replicate n Unspilled
+  pub long : length ws′ ≡ length ws
+
+-- what `load` leaves: the state that a run begins with
+pub record Loaded (cap : ℕ) (t ws ws′ : List ℕ) (r : Counts) (n : ℕ) : Type 0 where
+  pub is : stateOf cap ws′ r ≡ begin t
+  pub ready : Ready cap ws′ r
+  pub records : r .records ≡ n
+  pub queued : r .queued ≡ n
+  pub active : r .active ≡ 0
+  pub intervals : r .intervals ≡ n
+  pub long : length ws′ ≡ length ws

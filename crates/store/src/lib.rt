@@ -1,5 +1,6 @@
 // The lent work area. `cells` alone knows how the words lie; `state` reads and writes them as the state of `rules`; `area` fills the work area from the
 // tables, and the result area from the work area.
+pub mod area;
 pub mod cells;
 pub mod state;
 

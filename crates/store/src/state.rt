@@ -12,7 +12,7 @@ ghost use lib.ListN.{getD, set};
 ghost use Rattle.rules.specs.declared.Home.the-variants.{Unspilled, Spilled};
 ghost use Rattle.rules.specs.State.{withPieces, withActive, withHomes, piece as pieceOf, put, enqueue as enqueued};
 ghost use Rattle.rules.specs.Slots.{spillTo};
-ghost use Rattle.store.specs.StateOf.{stateOf, spilledIn, Ready, After, Got, PutInto, GotActive, PoppedAs, Homeless, Rounded};
+ghost use Rattle.store.specs.StateOf.{stateOf, spilledIn, Ready, After, Got, PutInto, GotActive, PoppedAs, HomeOf, Homeless, Size, Rounded};
 
 // Keys order by start, then by record.
 const RECORDS: u32 = 16384;
@@ -142,4 +142,130 @@ pub fn push_active(work: &mut [u32], cap: usize, counts: Counts, k: usize) -> Co
         active: counts.active + 1,
         total: counts.total,
     }
+}
+
+// Sizes 1, 2, 4, 8.
+fn size_of(log: u16) -> u32
+    requires { ⌜ log < 4 ⌝ }
+    ensures { λ r. ⌜ Size log r ⌝ }
+{
+    match log {
+        0 => 1,
+        1 => 2,
+        2 => 4,
+        _ => 8,
+    }
+}
+
+// The total rounded up to a multiple of the size. Each divisor is a constant, so that nothing is divided.
+fn round_up(total: u32, log: u16) -> u32
+    requires { ⌜ total ≤ 32760 ⌝ }
+    requires { ⌜ log < 4 ⌝ }
+    ensures { λ r. ⌜ Rounded total log r ⌝ }
+{
+    match log {
+        0 => total,
+        1 => (total + 1) / 2 * 2,
+        2 => (total + 3) / 4 * 4,
+        _ => (total + 7) / 8 * 8,
+    }
+}
+
+// Virtual register v is given its slot.
+fn give_home(
+    work: &mut [u32],
+    cap: usize,
+    counts: Counts,
+    v: usize,
+    slot: u16,
+    total: u32,
+) -> Counts
+    requires { ⌜ Ready cap (now work) counts ⌝ }
+    requires { ⌜ v < counts .intervals ⌝ }
+    requires { ⌜ getD (stateOf cap (now work) counts .homes) v Unspilled ≡ Unspilled ⌝ }
+    requires { ⌜ total ≤ 8 * spilledIn (stateOf cap (now work) counts .homes) + 8 ⌝ }
+    ensures { λ r. ⌜ After cap (now (work .entry)) (now (work .exit)) counts r (withHomes (set (stateOf cap (now (work .entry)) counts .homes) v (Spilled slot)) total (stateOf cap (now (work .entry)) counts)) (counts .records) (counts .queued) (counts .active) ⌝ }
+{
+    cells::put_home(work, cap, v, Home::Spilled(slot));
+    Counts {
+        intervals: counts.intervals,
+        records: counts.records,
+        queued: counts.queued,
+        active: counts.active,
+        total: total,
+    }
+}
+
+// The first spill of virtual register v, record k's.
+fn first_spill(work: &mut [u32], cap: usize, counts: Counts, k: usize, v: usize, log: u16) -> Counts
+    requires { ⌜ Ready cap (now work) counts ⌝ }
+    requires { ⌜ k < counts .records ⌝ }
+    requires { ⌜ log < 4 ⌝ }
+    requires { ⌜ Homeless cap (now work) counts k v ⌝ }
+    ensures { λ r. ⌜ After cap (now (work .entry)) (now (work .exit)) counts r (spillTo (stateOf cap (now (work .entry)) counts) k (2 ^ log) Unspilled) (counts .records) (counts .queued) (counts .active) ⌝ }
+{
+    let rounded = round_up(counts.total, log);
+    let slot = rounded as u16;
+    let total = rounded + size_of(log);
+    let given = give_home(work, cap, counts, v, slot, total);
+    put_place(work, cap, given, k, Place::Slot(slot));
+    given
+}
+
+// A virtual register and its home.
+struct Owner {
+    v: usize,
+    home: Home,
+}
+
+// Record k's virtual register.
+fn owner_of(work: &[u32], cap: usize, counts: Counts, k: usize) -> Owner
+    requires { ⌜ Ready cap (now work) counts ⌝ }
+    requires { ⌜ k < counts .records ⌝ }
+    ensures { λ r. ⌜ HomeOf cap (now (work .entry)) counts k (r .v) (r .home) ⌝ }
+{
+    let q = piece(work, cap, counts, k);
+    let v = q.interval as usize;
+    Owner {
+        v: v,
+        home: cells::home_at(work, cap, v),
+    }
+}
+
+// Spill record k, whose virtual register v has this home.
+fn spill_by(
+    work: &mut [u32],
+    cap: usize,
+    counts: Counts,
+    k: usize,
+    v: usize,
+    home: Home,
+    log: u16,
+) -> Counts
+    requires { ⌜ Ready cap (now work) counts ⌝ }
+    requires { ⌜ k < counts .records ⌝ }
+    requires { ⌜ log < 4 ⌝ }
+    requires { ⌜ HomeOf cap (now work) counts k v home ⌝ }
+    ensures { λ r. ⌜ After cap (now (work .entry)) (now (work .exit)) counts r (spillTo (stateOf cap (now (work .entry)) counts) k (2 ^ log) home) (counts .records) (counts .queued) (counts .active) ⌝ }
+{
+    match home {
+        Home::Unspilled => first_spill(work, cap, counts, k, v, log),
+        Home::Spilled(slot) => {
+            put_place(work, cap, counts, k, Place::Slot(slot));
+            counts
+        }
+    }
+}
+
+// Spill record k: at its virtual register's first spill the next slot, later the same one.
+pub fn spill(work: &mut [u32], cap: usize, counts: Counts, k: usize, log: u16) -> Counts
+    requires { ⌜ Ready cap (now work) counts ⌝ }
+    requires { ⌜ k < counts .records ⌝ }
+    requires { ⌜ log < 4 ⌝ }
+    ensures { λ r. ⌜ After cap (now (work .entry)) (now (work .exit)) counts r (spillTo (stateOf cap (now (work .entry)) counts) k (2 ^ log) (getD (stateOf cap (now (work .entry)) counts .homes) (pieceOf (stateOf cap (now (work .entry)) counts) k .interval) Unspilled)) (counts .records) (counts .queued) (counts .active) ⌝ }
+{
+    let owner = owner_of(work, cap, counts, k);
+    let v = owner.v;
+    let home = owner.home;
+    spill_by(work, cap, counts, k, v, home, log)
 }

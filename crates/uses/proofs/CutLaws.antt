@@ -1,11 +1,8 @@
 -- The halves of a split, and that they keep to their interval.
 -- Assumes nothing.
-use Prim.Native.Nat.{ℕ, _+_, _-_, _≤_, _<_}
-use mathlib.Core.Path.{_≡_, refl}
-use mathlib.Core.Bool.{Bool}
+use Prim.Native.Nat.{ℕ, _-_}
+use mathlib.Core.Path.{_≡_}
 use mathlib.Core.List.{List}
-use native.Mathlib.Omega.{arith}
-use lib.ListN.{length}
 use Rattle.words.specs.declared.Range.{Range}
 use Rattle.rules.specs.declared.Piece.{Piece}
 use Rattle.rules.specs.declared.Place.{Place}
@@ -14,8 +11,7 @@ use Rattle.rules.specs.Tables.{Tables}
 use Rattle.rules.specs.Accepted.{Accepted, interval}
 use Rattle.rules.specs.State.{withPlace}
 use Rattle.rules.specs.Split.{firstOf, restOf, parent, child}
-use Rattle.uses.specs.declared.Halves.{Halves}
-use Rattle.uses.specs.Runs.{Rising, Ascending, Kept, Room, Orderly, Owned}
+use Rattle.uses.specs.Runs.{Kept, Orderly, Owned}
 use Rattle.uses.specs.Mentions.{staysBelow}
 use Rattle.uses.specs.Safepoints.{useBelow}
 use Rattle.uses.specs.Cuts.{parentBy, childBy, Cut}
@@ -30,13 +26,6 @@ module _ (q : Piece) (p m s : ℕ) (a b : Range) where
   pub child-made : a ≡ restOf m (q .mentions) → b ≡ restOf s (q .safepoints)
       → _≡_ {A = Piece} (record { interval = q .interval; place = Nowhere; start = p; end = q .end; mentions = a; safepoints = b }) (childBy q p m s)
   child-made g h = rw (g, h)
-
--- what stays leaves room
-pub room-of-mentions : (f : ℕ → Bool) (r : Range) (l : List ℕ) (n : ℕ) → Rising r l → Kept f r l n → Room n r
-room-of-mentions f r l n up k = record { most = k .most; fits = omega (arith, up .inside, up .short) }
-
-pub room-of-safepoints : (f : ℕ → Bool) (r : Range) (l : List ℕ) (n : ℕ) → Ascending r l → Kept f r l n → Room n r
-room-of-safepoints f r l n up k = record { most = k .most; fits = omega (arith, up .inside, up .short) }
 
 -- halves by how much stays are those of the rules
 pub cut-made : (ms ss : List ℕ) (q a b : Piece) (p m s : ℕ) → a ≡ parentBy q p m s → b ≡ childBy q p m s → Kept (staysBelow p) (q .mentions) ms m → Kept (useBelow p) (q .safepoints) ss s

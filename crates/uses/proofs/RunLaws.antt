@@ -1,11 +1,10 @@
 -- A piece's runs on accepted tables, and runs of runs.
 -- Assumes nothing.
-use Prim.Native.Nat.{ℕ, suc, _+_, _-_, _*_, _≤_, _<_}
-use mathlib.Core.Path.{_≡_, refl}
+use Prim.Native.Nat.{ℕ, suc, _-_, _≤_, _<_}
 use mathlib.Core.Bool.{Bool, true, false}
 use mathlib.Core.List.{List, [], _∷_}
 use native.Mathlib.Omega.{arith}
-use lib.ListN.{length, getD, take, drop, length-take, length-drop}
+use lib.ListN.{length, drop, length-take}
 use Rattle.words.specs.Choose.{choose}
 use Rattle.words.specs.declared.Range.{Range}
 use Rattle.words.specs.Packed.{part, intervalCount}

@@ -1,16 +1,15 @@
 -- The first safepoint of a run.
 -- Assumes nothing.
-use Prim.Native.Nat.{ℕ, suc, _+_, _-_, _≤_, _<_}
-use mathlib.Core.Path.{_≡_, refl, sym}
+use Prim.Native.Nat.{ℕ, suc, _-_}
+use mathlib.Core.Path.{_≡_, refl}
 use mathlib.Core.List.{List, [], _∷_, tail}
 use native.Mathlib.Omega.{arith}
-use lib.ListN.{length, getD, take, drop}
+use lib.ListN.{getD}
 use lib.Seq.{drop-cons}
 use mir.Val.{Fits}
 use mir.Syntax.{w16}
 use Rattle.words.specs.declared.Range.{Range}
 use Rattle.words.specs.Packed.{part}
-use Rattle.uses.specs.declared.Safepoint.{Safepoint}
 use Rattle.uses.specs.declared.Safepoint.the-variants.{Missing, Instruction}
 use Rattle.uses.specs.Runs.{Ascending}
 use Rattle.uses.specs.Safepoints.{headOf}

@@ -1,6 +1,6 @@
 -- What a walk over a run has found after n entries: each turn of the walks, and their ends.
 -- Assumes nothing.
-use Prim.Native.Nat.{ℕ, suc, _+_, _-_, _*_, _≤_, _<_}
+use Prim.Native.Nat.{ℕ, zero, suc, _+_, _-_, _≤_, _<_}
 use mathlib.Core.Path.{_≡_, refl, sym, ap, _∙_}
 use mathlib.Core.Bool.{Bool, true, false}
 use mathlib.Core.List.{List, [], _∷_, _++_, append-nil}
@@ -10,17 +10,15 @@ use mathlib.Core.Logic.{⊎-elim}
 use native.Mathlib.Numerals.{add-one}
 use lib.ListN.{length, getD, take, drop, length-take, length-drop}
 use lib.Seq.{drop-cons, take-suc, getD-take, getD-drop}
-use lib.Dec.{ltb}
 use borrow.Author.Tests.{ltb-false, le-ltb}
-use Rattle.words.specs.Choose.{choose}
 use Rattle.words.specs.declared.Range.{Range}
 use Rattle.words.specs.declared.Spot.{Spot}
 use Rattle.words.specs.declared.Spot.the-variants.{Nothing, Point}
-use Rattle.words.specs.Points.{usePoint, defPoint}
+use Rattle.words.specs.Points.{usePoint}
 use Rattle.words.specs.Packed.{mentionIn, part}
 use Rattle.rules.specs.Uses.{pointsIn, mentionPoints, nextUse, lastUse}
 use Rattle.rules.specs.Accepted.{InRange}
-use Rattle.rules.specs.Split.{countOf, anyBelow}
+use Rattle.rules.specs.Split.{countOf}
 use Rattle.uses.specs.Runs.{mentionAt, Rising, Ascending, Kept}
 use Rattle.uses.specs.Mentions.{staysBelow}
 use Rattle.uses.specs.Safepoints.{useBelow}
@@ -130,6 +128,15 @@ module _ (r : Range) (l : List ℕ) (p : ℕ) where
   unfolding mentionPoints nextUse
   seeking-ends n s h = sym (s .is ∙ rw (rest-none r l n h))
 
+  seeks : (n : ℕ) → Rising r l → n ≤ r .count → ((k : ℕ) → k < n → nextUse p (pointsIn (mentionAt l (r .index + k))) ≡ Nothing) → Seeking r l p n
+  seeks zero up h g = seeking-starts up
+  seeks (suc n) up h g = rw (add-one n) at (seeking-more n Nothing (seeks n up (omega arith) (λ k i. g k (omega arith))) (omega arith) (sym (g n (omega arith))) refl)
+
+  -- the next use is that of the first mention that has one
+  pub next-first : (n x : ℕ) → Rising r l → n < r .count → ((k : ℕ) → k < n → nextUse p (pointsIn (mentionAt l (r .index + k))) ≡ Nothing)
+      → nextUse p (pointsIn (mentionAt l (r .index + n))) ≡ Point x → nextUse p (mentionPoints (part r l)) ≡ Point x
+  next-first n x up h g e = sym (seeking-found n x (Point x) (seeks n up (omega arith) g) h (sym e) refl)
+
 -- the walk for the last use at or before p, from the end, with n entries left
 pub record Trailing (r : Range) (l : List ℕ) (p n : ℕ) : Type 0 where
   pub rising : Rising r l
@@ -154,6 +161,20 @@ module _ (r : Range) (l : List ℕ) (p : ℕ) where
   pub trailing-ends : (n : ℕ) → Trailing r l p n → n ≤ 0 → Nothing ≡ lastUse p (mentionPoints (part r l))
   unfolding mentionPoints lastUse
   trailing-ends n s h = let e : n ≡ 0 = omega arith in sym (s .is ∙ rw e)
+
+  trails : (d n : ℕ) → Rising r l → n + d ≡ r .count → ((k : ℕ) → n ≤ k → k < r .count → lastUse p (pointsIn (mentionAt l (r .index + k))) ≡ Nothing) → Trailing r l p n
+  trails zero n up h g = let e : n ≡ r .count = omega arith in rw e (trailing-starts up)
+  trails (suc d) n up h g =
+      let e : n + 1 - 1 ≡ n = omega arith in
+      rw e at (trailing-more (n + 1) Nothing (trails d (n + 1) up (omega arith) (λ k i j. g k (omega arith) j)) (omega arith) (rw e (sym (g n (omega arith) (omega arith)))) refl)
+
+  -- the last use is that of the last mention that has one
+  pub last-last : (n x : ℕ) → Rising r l → n < r .count → ((k : ℕ) → n < k → k < r .count → lastUse p (pointsIn (mentionAt l (r .index + k))) ≡ Nothing)
+      → lastUse p (pointsIn (mentionAt l (r .index + n))) ≡ Point x → lastUse p (mentionPoints (part r l)) ≡ Point x
+  last-last n x up h g e =
+      let f : n + 1 - 1 ≡ n = omega arith in
+      let s : Trailing r l p (n + 1) = trails (r .count - (n + 1)) (n + 1) up (omega arith) (λ k i j. g k (omega arith) j) in
+      sym (trailing-found (n + 1) x (Point x) s (omega arith) (rw f (sym e)) refl)
 
 -- a test of which all entries after one that fails fail too
 abbrev pub Falls : (ℕ → Bool) → Range → List ℕ → Type 0
@@ -196,6 +217,15 @@ module _ (f : ℕ → Bool) (r : Range) (l : List ℕ) where
   counting-ends n s h =
       let none : countOf f (rest r n l) ≡ 0 = rw (rest-none r l n h) in
       record { is = omega (arith, s .is); most = s .upto }
+
+  counts : (n : ℕ) → r .index + r .count ≤ length l → Falls f r l → n ≤ r .count → ((k : ℕ) → k < n → f (getD l (r .index + k) 0) ≡ true) → Counting f r l n
+  counts zero i d h g = counting-starts i d
+  counts (suc n) i d h g = rw (add-one n) at (counting-more n true (counts n i d (omega arith) (λ k j. g k (omega arith))) (omega arith) (sym (g n (omega arith))) refl)
+
+  -- the count of a test that falls is the first index that fails
+  pub count-first : (n : ℕ) → r .index + r .count ≤ length l → Falls f r l → n < r .count → ((k : ℕ) → k < n → f (getD l (r .index + k) 0) ≡ true)
+      → f (getD l (r .index + n) 0) ≡ false → countOf f (part r l) ≡ n
+  count-first n i d h g e = sym (counting-stops n false (counts n i d (omega arith) g) h (sym e) refl .is)
 
 -- the tests of a split fall
 pub mentions-fall : (p : ℕ) (r : Range) (l : List ℕ) → Rising r l → Falls (staysBelow p) r l

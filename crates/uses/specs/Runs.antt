@@ -1,5 +1,5 @@
 -- Facts for contracts: what a piece's run of mentions, and of safepoints, is on accepted tables (proofs/RunLaws derives them).
-use Prim.Native.Nat.{ℕ, _+_, _-_, _≤_, _<_}
+use Prim.Native.Nat.{ℕ, _+_, _≤_, _<_}
 use mathlib.Core.Path.{_≡_}
 use mathlib.Core.Bool.{Bool}
 use mathlib.Core.List.{List, List·Memᴰ}

@@ -6,7 +6,7 @@ use rules::Piece;
 use rules::Place;
 use words::Range;
 ghost use mathlib.Core.Path.{_≡_};
-ghost use Prim.Native.Nat.{ℕ, _+_, _-_, _<_, _≤_};
+ghost use Prim.Native.Nat.{_-_};
 ghost use Rattle.rules.specs.Split.{firstOf, restOf};
 ghost use Rattle.uses.specs.Runs.{Orderly, Room};
 ghost use Rattle.uses.specs.Cuts.{parentBy, childBy, Cut};

@@ -4,7 +4,6 @@ use words::Spot;
 use words::points;
 use words::read;
 ghost use mathlib.Core.Path.{_≡_};
-ghost use Prim.Native.Nat.{ℕ, _+_, _*_, _<_, _≤_};
 ghost use Rattle.words.specs.Packed.{mentionIn, part};
 ghost use Rattle.rules.specs.Uses.{atUse, atDef, pointsIn, mentionPoints, isPoint, nextUse, lastUse};
 ghost use Rattle.uses.specs.Runs.{Rising, Kept};
@@ -70,9 +69,11 @@ fn next_in(w: u32, p: u16) -> Spot
     ensures { λ r. ⌜ r ≡ nextUse p (pointsIn (mentionIn w)) ⌝ }
 {
     let i = instruction_in(w);
-    let first = point_from(at_use(w), points::use_point(i), p);
+    let use_at = points::use_point(i);
+    let def_at = points::def_point(i);
+    let first = point_from(at_use(w), use_at, p);
     let Spot::Point(x) = first else {
-        return point_from(at_def(w), points::def_point(i), p);
+        return point_from(at_def(w), def_at, p);
     };
     Spot::Point(x)
 }
@@ -82,9 +83,11 @@ fn last_in(w: u32, p: u16) -> Spot
     ensures { λ r. ⌜ r ≡ lastUse p (pointsIn (mentionIn w)) ⌝ }
 {
     let i = instruction_in(w);
-    let last = point_until(at_def(w), points::def_point(i), p);
+    let use_at = points::use_point(i);
+    let def_at = points::def_point(i);
+    let last = point_until(at_def(w), def_at, p);
     let Spot::Point(x) = last else {
-        return point_until(at_use(w), points::use_point(i), p);
+        return point_until(at_use(w), use_at, p);
     };
     Spot::Point(x)
 }
@@ -94,11 +97,13 @@ fn stays(w: u32, p: u16) -> bool
     ensures { λ r. ⌜ r ≡ staysBelow p w ⌝ }
 {
     let i = instruction_in(w);
+    let use_at = points::use_point(i);
+    let def_at = points::def_point(i);
     if at_use(w) {
-        return points::use_point(i) < p;
+        return use_at < p;
     }
     if at_def(w) {
-        return points::def_point(i) < p;
+        return def_at < p;
     }
     false
 }

@@ -6,7 +6,6 @@ use words::Range;
 use words::Spot;
 use words::points;
 ghost use mathlib.Core.Path.{_≡_};
-ghost use Prim.Native.Nat.{ℕ, _+_, _*_, _<_, _≤_};
 ghost use Rattle.words.specs.declared.Spot.the-variants.{Point};
 ghost use Rattle.words.specs.Packed.{part};
 ghost use Rattle.rules.specs.Uses.{mentionPoints};

@@ -2,7 +2,6 @@
 use crate::Safepoint;
 use words::Range;
 ghost use mathlib.Core.Path.{_≡_};
-ghost use Prim.Native.Nat.{ℕ, _+_, _*_, _<_, _≤_};
 ghost use Rattle.words.specs.Packed.{part};
 ghost use Rattle.uses.specs.Runs.{Ascending, Kept};
 ghost use Rattle.uses.specs.Safepoints.{headOf, useBelow};

@@ -6,7 +6,7 @@ use mathlib.Core.Bool.{Bool, true, false}
 use native.Mathlib.Omega.{arith}
 use lib.Dec.{eqb}
 use Rattle.words.specs.Field.{join, bits, bit}
-use Rattle.words.specs.Packed.{classIn, classWord, ClassFits, rangeIn, rangeWord, fragmentIn, fragmentWord, intervalIn, kindWord, IntervalFits, mentionIn, mentionWord, MentionFits, recordIn, recordRow, RecordFits}
+use Rattle.words.specs.Packed.{classIn, classWord, ClassFits, rangeIn, rangeWord, fragmentIn, fragmentWord, intervalAt, intervalRow, kindWord, IntervalFits, mentionIn, mentionWord, MentionFits, recordIn, recordRow, RecordFits}
 use Rattle.words.specs.declared.Range.{Range}
 use Rattle.words.specs.declared.Class.{Class}
 use Rattle.words.specs.declared.Fragment.{Fragment}
@@ -44,16 +44,19 @@ class-back c h =
     let spare = field-is 0 7 (classWord c) (c .first * 2 ^ 17 + c .count * 2 ^ 9 + bit (c .scratched) * 2 ^ 8 + c .scratch) (c .spare) 0 (omega arith) (omega arith) (omega arith) in
     rw (first, count, has, flag-bit, scratch, spare)
 
--- the first word of an interval, whatever the other three are
-pub kind-back : (i : Interval) (w1 w2 w3 : ℕ) → IntervalFits i
-    → (intervalIn (kindWord i) w1 w2 w3 .class ≡ i .class) × (intervalIn (kindWord i) w1 w2 w3 .reference ≡ i .reference) × (intervalIn (kindWord i) w1 w2 w3 .«log_size» ≡ i .«log_size») × (intervalIn (kindWord i) w1 w2 w3 .spare ≡ i .spare)
-kind-back i w1 w2 w3 h =
+-- an interval is read back from its four words
+pub interval-back : (i : Interval) → IntervalFits i → i .start < 2 ^ 16 → i .end < 2 ^ 16 → i .mentions .index < 2 ^ 16 → i .mentions .count < 2 ^ 16 → i .safepoints .index < 2 ^ 16 → i .safepoints .count < 2 ^ 16
+    → intervalAt (intervalRow i) 0 ≡ i
+interval-back i h s e mi mc si sc =
     let l : bit (i .reference) < 2 = bit-lt (i .reference) in
     let class = field-is 29 3 (kindWord i) 0 (i .class) (bit (i .reference) * 2 ^ 28 + i .«log_size» * 2 ^ 26 + i .spare) (omega arith) (omega arith) (omega arith) in
     let has = field-is 28 1 (kindWord i) (i .class) (bit (i .reference)) (i .«log_size» * 2 ^ 26 + i .spare) (omega arith) (omega arith) (omega arith) in
     let log = field-is 26 2 (kindWord i) (i .class * 2 + bit (i .reference)) (i .«log_size») (i .spare) (omega arith) (omega arith) (omega arith) in
     let spare = field-is 0 26 (kindWord i) (i .class * 8 + bit (i .reference) * 4 + i .«log_size») (i .spare) 0 (omega arith) (omega arith) (omega arith) in
-    (class, rw has (flag-bit (i .reference)), log, spare)
+    let points = halves (i .start) (i .end) s e in
+    let ments = halves (i .mentions .index) (i .mentions .count) mi mc in
+    let safes = halves (i .safepoints .index) (i .safepoints .count) si sc in
+    rw (class, has, flag-bit, log, spare, points .0, points .1, ments .0, ments .1, safes .0, safes .1)
 
 pub mention-back : (m : Mention) → MentionFits m → mentionIn (mentionWord m) ≡ m
 mention-back m h =

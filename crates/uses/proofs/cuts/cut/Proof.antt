@@ -1,7 +1,7 @@
 -- `uses::cuts::cut` meets its contract: what stays is counted, and the halves are made of that.
 -- Assumes nothing.
 use borrow.Author.Needs.{needs}
-use Rattle.uses.proofs.CutLaws.{room-of-mentions, room-of-safepoints, cut-made}
+use Rattle.uses.proofs.CutLaws.{cut-made}
 use Rattle.uses.proofs.cuts.cut.Statement.{statement}
 use Rattle.uses.proofs.cuts.cut.Tie as tie
 

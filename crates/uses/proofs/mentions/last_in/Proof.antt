@@ -8,11 +8,14 @@ use Rattle.uses.proofs.mentions.last_in.Tie as tie
 instruction-in-requires : tie.Need-instruction-in-requires
 instruction-in-requires c κs = search needs
 
-at-def-requires : tie.Need-at-def-requires
-at-def-requires c κs = search needs
+use-point-requires : tie.Need-use-point-requires
+use-point-requires c κs = search needs
 
 def-point-requires : tie.Need-def-point-requires
 def-point-requires c κs = search needs
+
+at-def-requires : tie.Need-at-def-requires
+at-def-requires c κs = search needs
 
 point-until-requires : tie.Need-point-until-requires
 point-until-requires c κs = search needs
@@ -25,9 +28,6 @@ enum-told c = search needs
 
 at-use-requires : tie.Need-at-use-requires
 at-use-requires c κs = search needs
-
-use-point-requires : tie.Need-use-point-requires
-use-point-requires c κs = search needs
 
 point-until-requires-2 : tie.Need-point-until-requires-2
 point-until-requires-2 c κs = search needs
@@ -43,13 +43,13 @@ last-in-spec =
     tie.close
     (tie.spec
     instruction-in-requires
-    at-def-requires
+    use-point-requires
     def-point-requires
+    at-def-requires
     point-until-requires
     enum-known-last
     enum-told
     at-use-requires
-    use-point-requires
     point-until-requires-2
     returns
     returns-2)

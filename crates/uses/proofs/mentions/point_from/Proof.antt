@@ -1,6 +1,5 @@
 -- `uses::mentions::point_from` meets its contract: one point is the next use, unless it is late or not there.
 -- Assumes nothing.
-use borrow.Author.Needs.{needs}
 use Rattle.uses.proofs.MentionLaws.{next-late, next-there, next-gone}
 use Rattle.uses.proofs.mentions.point_from.Statement.{statement}
 use Rattle.uses.proofs.mentions.point_from.Tie as tie

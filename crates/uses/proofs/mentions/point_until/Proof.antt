@@ -1,6 +1,5 @@
 -- `uses::mentions::point_until` meets its contract: one point is the last use, unless it is early or not there.
 -- Assumes nothing.
-use borrow.Author.Needs.{needs}
 use Rattle.uses.proofs.MentionLaws.{last-early, last-there, last-gone}
 use Rattle.uses.proofs.mentions.point_until.Statement.{statement}
 use Rattle.uses.proofs.mentions.point_until.Tie as tie

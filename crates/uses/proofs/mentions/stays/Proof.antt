@@ -8,20 +8,20 @@ use Rattle.uses.proofs.mentions.stays.Tie as tie
 instruction-in-requires : tie.Need-instruction-in-requires
 instruction-in-requires c κs = search needs
 
-at-use-requires : tie.Need-at-use-requires
-at-use-requires c κs = search needs
-
 use-point-requires : tie.Need-use-point-requires
 use-point-requires c κs = search needs
+
+def-point-requires : tie.Need-def-point-requires
+def-point-requires c κs = search needs
+
+at-use-requires : tie.Need-at-use-requires
+at-use-requires c κs = search needs
 
 returns : tie.Need-returns
 returns c = search stays-use
 
 at-def-requires : tie.Need-at-def-requires
 at-def-requires c κs = search needs
-
-def-point-requires : tie.Need-def-point-requires
-def-point-requires c κs = search needs
 
 returns-2 : tie.Need-returns-2
 returns-2 c = search stays-def
@@ -34,10 +34,10 @@ stays-spec =
     tie.close
     (tie.spec
     instruction-in-requires
-    at-use-requires
     use-point-requires
+    def-point-requires
+    at-use-requires
     returns
     at-def-requires
-    def-point-requires
     returns-2
     returns-3)

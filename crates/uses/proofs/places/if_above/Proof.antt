@@ -1,6 +1,5 @@
 -- `uses::places::if_above` meets its contract: a place that is not above v is none.
 -- Assumes nothing.
-use borrow.Author.Needs.{needs}
 use Rattle.uses.proofs.PlaceLaws.{above-yes, above-no}
 use Rattle.uses.proofs.places.if_above.Statement.{statement}
 use Rattle.uses.proofs.places.if_above.Tie as tie

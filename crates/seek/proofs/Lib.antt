@@ -1,0 +1,2 @@
+-- The laws of halving.
+pub mod SeekLaws

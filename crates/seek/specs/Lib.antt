@@ -1,0 +1,2 @@
+-- Searching a table whose words ascend.
+pub mod Seek

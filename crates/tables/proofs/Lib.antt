@@ -1,0 +1,4 @@
+pub mod WalkLaws
+pub mod ClassLaws
+pub mod EntryLaws
+pub mod SafepointLaws

@@ -1,0 +1,61 @@
+-- What is proved of the definitions of `rules`, for every input, in the words of the demands. Each line cites its proof.
+-- Assumes nothing.
+use Prim.Native.Nat.{ℕ, _*_, _≤_}
+use mathlib.Core.Path.{_≡_}
+use mathlib.Core.List.{List, []}
+use lib.ListN.{length, drop}
+use Rattle.words.specs.Packed.{recordWords}
+use Rattle.rules.specs.declared.Answer.the-variants.{Done}
+use Rattle.rules.specs.declared.Check.the-variants.{Fine}
+use Rattle.rules.specs.declared.Mode.{Mode}
+use Rattle.rules.specs.declared.Options.{Options}
+use Rattle.rules.specs.Answers.{number}
+use Rattle.rules.specs.Tables.{Tables}
+use Rattle.rules.specs.Room.{capacity}
+use Rattle.rules.specs.State.{Given, State}
+use Rattle.rules.specs.Call.{given, check, runFor, zeroRecords, assign}
+use Rattle.rules.specs.Checker.{HoldBelow, checkAll, Checks}
+use Rattle.rules.proofs.Accepted.{accepted}
+use Rattle.rules.proofs.Keeps.{All}
+use Rattle.rules.proofs.Runs.{Finished}
+use Rattle.rules.proofs.Leaves.{assign-leaves, answers-alone, call-ends, check-room}
+use Rattle.theorems.specs.Reach.{Reached}
+use Rattle.theorems.specs.Defined.{Defined}
+use Rattle.theorems.proofs.Defined.{reached-defined}
+use Rattle.theorems.proofs.Done.{claim, check-tables, done-rules, done-checked, done-accepted}
+
+-- Demand 1. Any input gets an answer, and the run ends: where the checks pass, as many pops as the capacity empty the queue, or the run is refused as 10 to 13.
+pub ends : (m : Mode) (T : Tables) (cap work : ℕ) → check T cap work ≡ Fine → All (Finished (given m T cap)) (runFor m T cap)
+ends = call-ends
+
+-- and nothing on the way is ill-defined: at every turn of a run on accepted tables numbers are within bounds, and what is popped has no place yet
+pub defined : (m : Mode) (T : Tables) (cap work l : ℕ) (s : State) → cap ≤ 16384 → check T cap work ≡ Fine → Reached (given m T cap) l s → Defined (given m T cap) l s
+defined m T cap work l s small e = reached-defined (given m T cap) (accepted T (check-tables T cap work e)) l s small (check-room T cap work e)
+
+module _ (o : Options) (T : Tables) (out : List ℕ) (work : ℕ) where
+  -- Demand 2, refusals. The answers are 1 to 13; 2 to 9 leave the result area as it was, 10 to 13 zero every whole record of capacity; an odd last word and what lies past capacity stay.
+  pub known : number (assign o T out work .answer) ≤ 13
+  known = assign-leaves o T out work .known
+
+  pub refused-at-entry : 2 ≤ number (assign o T out work .answer) → number (assign o T out work .answer) ≤ 9 → assign o T out work .leaves ≡ out
+  refused-at-entry = assign-leaves o T out work .entry
+
+  pub refused-in-the-run : 10 ≤ number (assign o T out work .answer) → assign o T out work .leaves ≡ zeroRecords out
+  refused-in-the-run = assign-leaves o T out work .during
+
+  pub never-written : drop (capacity out * recordWords) (assign o T out work .leaves) ≡ drop (capacity out * recordWords) out
+  never-written = assign-leaves o T out work .past
+
+  pub same-length : length (assign o T out work .leaves) ≡ length out
+  same-length = assign-leaves o T out work .long
+
+  -- the answer does not depend on what the result area held
+  pub answer-alone : (other : List ℕ) → length out ≡ length other → assign o T out work .answer ≡ assign o T other work .answer
+  answer-alone other = answers-alone o T out other work
+
+  -- Demand 3. Every result that is reported as done, with n records and slot total t, obeys the placement rules 1 to 7, so the checker's answer to it is done with this n and t.
+  pub obeys : (n t : ℕ) → assign o T out work .answer ≡ Done n t → HoldBelow T (claim (assign o T out work) n t) 8
+  obeys = done-rules o T out work
+
+  pub is-accepted : (n t : ℕ) → assign o T out work .answer ≡ Done n t → Checks T (claim (assign o T out work) n t) (Done n t)
+  is-accepted = done-accepted o T out work

@@ -1,0 +1,4 @@
+-- Facts for proofs over the definitions of `rules`: what holds of every state of a run.
+pub mod Invariant
+pub mod Reach
+pub mod Defined

@@ -3,15 +3,20 @@ use Prim.Native.Nat.{ℕ, _+_, _≤_, _<_}
 use mathlib.Core.Path.{_≡_}
 use mathlib.Core.List.{List, []}
 use lib.ListN.{length}
+use Rattle.words.specs.Choose.{choose}
 use Rattle.words.specs.declared.Class.{Class}
 use Rattle.words.specs.Packed.{classAt, intervalAt, intervalCount}
 use Rattle.rules.specs.declared.Answer.{Answer}
+use Rattle.rules.specs.declared.Choice.{Choice}
+use Rattle.rules.specs.declared.Choice.the-variants.{AllBlocked, Take}
 use Rattle.rules.specs.declared.Holder.{Holder}
 use Rattle.rules.specs.declared.Holder.the-variants.{Held}
 use Rattle.rules.specs.declared.Mode.{Mode}
 use Rattle.rules.specs.declared.Pos.{Pos}
+use Rattle.rules.specs.declared.Pos.the-variants.{At}
+use Rattle.rules.specs.Positions.{below}
 use Rattle.rules.specs.State.{Given, State, Outcome, goOn, piece}
-use Rattle.rules.specs.Steps.{takeRegister, cutBefore, spillHolder, holder}
+use Rattle.rules.specs.Steps.{takeRegister, cutBefore, spillHolder, holder, spillUntil}
 use Rattle.store.specs.declared.Counts.{Counts}
 use Rattle.store.specs.StateOf.{stateOf, Ready, After}
 use Rattle.activity.specs.declared.Tracker.{Tracker}
@@ -95,6 +100,15 @@ pub record TakesOver (cap : ℕ) (is ms ss ws : List ℕ) (c : Counts) (k S : �
 -- step 4's "take the register", whose first fragment start is b and whose holder is h
 abbrev pub takeOverAt : Given → State → ℕ → ℕ → Pos → Holder → Outcome
 takeOverAt g s k r b h = goOn (cutBefore g (takeRegister s k r) k b) (λ t. spillHolder g t (piece s k .start) h)
+
+-- step 4's weighing, where B gives each register its first fragment start
+unfoldable pub weighBy : Given → State → ℕ → ℕ → (ℕ → Pos) → Choice → Outcome
+weighBy g s k f B AllBlocked = spillUntil g s k f
+weighBy g s k f B (Take r p) = choose (below (At f) p) (takeOverAt g s k r (B r) (holder s r)) (spillUntil g s k f)
+
+-- a choice is of a register of 64
+pub record Chosen (x : Choice) : Type 0 where
+  pub below : (r : ℕ) (p : Pos) → x ≡ Take r p → r < 64
 
 -- the counts d after a step from c: as many intervals, and no record less
 pub record Stays (cap : ℕ) (ms ss ws : List ℕ) (c d : Counts) : Type 0 where

@@ -5,7 +5,10 @@ use mathlib.Core.List.{List, []}
 use lib.ListN.{length}
 use Rattle.words.specs.Choose.{choose}
 use Rattle.words.specs.declared.Class.{Class}
-use Rattle.words.specs.Packed.{classAt, intervalAt, intervalCount}
+use Rattle.words.specs.declared.Spot.{Spot}
+use Rattle.rules.specs.declared.Piece.{Piece}
+use Rattle.rules.specs.Uses.{mentionPoints, nextUse}
+use Rattle.words.specs.Packed.{part, classAt, intervalAt, intervalCount}
 use Rattle.rules.specs.declared.Answer.{Answer}
 use Rattle.rules.specs.declared.Choice.{Choice}
 use Rattle.rules.specs.declared.Choice.the-variants.{AllBlocked, Take}
@@ -16,14 +19,17 @@ use Rattle.rules.specs.declared.Pos.{Pos}
 use Rattle.rules.specs.declared.Pos.the-variants.{At}
 use Rattle.rules.specs.Positions.{below}
 use Rattle.rules.specs.State.{Given, State, Outcome, goOn, piece}
-use Rattle.rules.specs.Steps.{takeRegister, cutBefore, spillHolder, holder, spillUntil}
+use Rattle.rules.specs.Steps.{takeRegister, cutBefore, spillHolder, holder, furthest, spillUntil}
 use Rattle.store.specs.declared.Counts.{Counts}
 use Rattle.store.specs.StateOf.{stateOf, Ready, After}
 use Rattle.activity.specs.declared.Tracker.{Tracker}
 use Rattle.activity.specs.Fixed.{Fixed}
 use Rattle.activity.specs.Cursors.{Facing}
+use Rattle.steps.specs.declared.blocked.Kind.{Kind}
 use Rattle.split.specs.declared.Turn.{Turn}
 use Rattle.split.specs.declared.Turn.the-variants.{On, Off}
+use Rattle.choice.specs.Row.{posIn}
+use Rattle.choice.specs.Holding.{HolderRow, nextPos}
 use Rattle.split.specs.Fit.{Fit}
 use Rattle.split.specs.Turns.{outcomeOf}
 
@@ -36,6 +42,10 @@ stepping n m cs rs fs is ms ss cap =
 abbrev pub placing : Mode → List ℕ → List ℕ → List ℕ → ℕ → Given
 placing m is ms ss cap = stepping 0 m [] [] [] is ms ss cap
 
+-- the first use of a piece
+abbrev pub firstUse : List ℕ → Piece → Spot
+firstUse ms q = nextUse (q .start) (mentionPoints (part (q .mentions) ms))
+
 -- of sound tables: every interval has a class, and every class its registers, with their fragments
 pub record Tabled (cs rs fs is : List ℕ) : Type 0 where
   pub few : length cs ≤ 8
@@ -46,6 +56,17 @@ pub record Tabled (cs rs fs is : List ℕ) : Type 0 where
 -- the class of record k
 abbrev pub classFor : List ℕ → List ℕ → State → ℕ → Class
 classFor cs is s k = classAt cs (intervalAt is (piece s k .interval) .class)
+
+-- interval v has a class
+pub record HasClass (cs is : List ℕ) (v : ℕ) : Type 0 where
+  pub row : v < intervalCount is
+  pub inside : intervalAt is v .class < length cs
+
+-- .. which was read
+pub record KindOf (cs is : List ℕ) (v : ℕ) (r : Kind) : Type 0 where
+  pub number : r .number ≡ intervalAt is v .class
+  pub few : r .number < 8
+  pub is-class : r .class ≡ classAt cs (r .number)
 
 -- the area is ready, and record k, which is popped, is neither queued nor active
 pub record Popping (cap : ℕ) (is ms ss ws : List ℕ) (c : Counts) (k : ℕ) : Type 0 where
@@ -126,3 +147,31 @@ pub record Did (cap : ℕ) (ms ss ws ws′ : List ℕ) (c : Counts) (r : Turn) (
   pub meets : outcomeOf cap ws′ r ≡ o
   pub ends : Ended cap ms ss ws′ c r
   pub long : length ws′ ≡ length ws
+
+-- the popped record k, and its class x with its number i: its cursors face the record's start
+pub record Contending (cap : ℕ) (cs rs fs is ms ss ws : List ℕ) (c : Counts) (t : Tracker) (k i : ℕ) (x : Class) : Type 0 where
+  pub ready : Ready cap ws c
+  pub fit : Fit ms ss (stateOf cap ws c .pieces)
+  pub inside : k < c .records
+  pub rows : c .intervals ≡ intervalCount is
+  pub room : c .queued + c .active < c .records
+  pub few : i < 8
+  pub registers : x .first + x .count ≤ 64
+  pub facing : Facing rs fs (piece (stateOf cap ws c) k .start) (x .first) (x .count) t
+  pub is-class : x ≡ classFor cs is (stateOf cap ws c) k
+
+-- .. of which the weighing reads less
+pub record Weighing (cap : ℕ) (is ms ss ws : List ℕ) (c : Counts) (k i : ℕ) (x : Class) : Type 0 where
+  pub ready : Ready cap ws c
+  pub fit : Fit ms ss (stateOf cap ws c .pieces)
+  pub inside : k < c .records
+  pub rows : c .intervals ≡ intervalCount is
+  pub room : c .queued + c .active < c .records
+  pub few : i < 8
+  pub registers : x .first + x .count ≤ 64
+
+-- the furthest of the next uses was weighed against f, where the block row is B
+pub record Weighed (cap : ℕ) (m : Mode) (is ms ss ws ws′ : List ℕ) (c : Counts) (k f S : ℕ) (x : Class) (B : List Pos) (z : Turn) : Type 0 where
+  pub next : List Pos
+  pub held : HolderRow (nextPos ms (stateOf cap ws c) S B) (stateOf cap ws c) (x .first) (x .count) next
+  pub did : Did cap ms ss ws ws′ c z (weighBy (placing m is ms ss cap) (stateOf cap ws c) k f (posIn B) (furthest (posIn next) (x .scratch) (x .first) (x .count) AllBlocked))

@@ -58,7 +58,7 @@ module _ (cap : ℕ) (is ms ss : List ℕ) where
   pub of-held : (ws : List ℕ) (c : Counts) (k : ℕ) → HeldOf cap is ms ss ws c k → Held cap ms ss ws c k
   of-held ws c k h = record { ready = h .ready; fit = h .fit; inside = h .inside }
 
-  fit-take : (s : State) (k r : ℕ) → k < length (s .pieces) → Fit ms ss (s .pieces) → Fit ms ss (takeRegister s k r .pieces)
+  pub fit-take : (s : State) (k r : ℕ) → k < length (s .pieces) → Fit ms ss (s .pieces) → Fit ms ss (takeRegister s k r .pieces)
   unfolding takeRegister
   fit-take s k r l f = fit-put ms ss s k (Register r) l f
 

@@ -18,7 +18,9 @@ use Rattle.rules.specs.declared.Mode.{Mode}
 use Rattle.rules.specs.declared.Pos.{Pos}
 use Rattle.rules.specs.declared.Pos.the-variants.{At}
 use Rattle.rules.specs.Positions.{below}
-use Rattle.rules.specs.State.{Given, State, Outcome, goOn, piece}
+use Rattle.rules.specs.State.{Given, State, Outcome, goes, goOn, piece}
+use Rattle.rules.specs.declared.Strategy.the-variants.{From}
+use Rattle.rules.specs.Split.{splitAndQueue, partialPlace}
 use Rattle.rules.specs.Steps.{takeRegister, cutBefore, spillHolder, holder, furthest, spillUntil}
 use Rattle.store.specs.declared.Counts.{Counts}
 use Rattle.store.specs.StateOf.{stateOf, Ready, After}
@@ -31,7 +33,7 @@ use Rattle.split.specs.declared.Turn.the-variants.{On, Off}
 use Rattle.choice.specs.Row.{posIn}
 use Rattle.choice.specs.Holding.{HolderRow, nextPos}
 use Rattle.split.specs.Fit.{Fit}
-use Rattle.split.specs.Turns.{outcomeOf}
+use Rattle.split.specs.Turns.{cutting, outcomeOf}
 
 -- what a run is given: the mode, the tables and the capacity. (No step reads the instruction count.)
 abbrev pub stepping : ℕ → Mode → List ℕ → List ℕ → List ℕ → List ℕ → List ℕ → List ℕ → ℕ → Given
@@ -175,3 +177,18 @@ pub record Weighed (cap : ℕ) (m : Mode) (is ms ss ws ws′ : List ℕ) (c : Co
   pub next : List Pos
   pub held : HolderRow (nextPos ms (stateOf cap ws c) S B) (stateOf cap ws c) (x .first) (x .count) next
   pub did : Did cap ms ss ws ws′ c z (weighBy (placing m is ms ss cap) (stateOf cap ws c) k f (posIn B) (furthest (posIn next) (x .scratch) (x .first) (x .count) AllBlocked))
+
+-- record k can be split, and what is left of it take a register
+pub record Parting (cap : ℕ) (ms ss ws : List ℕ) (c : Counts) (k : ℕ) : Type 0 where
+  pub ready : Ready cap ws c
+  pub fit : Fit ms ss (stateOf cap ws c .pieces)
+  pub inside : k < c .records
+  pub room : c .queued + c .active < c .records
+
+-- the place of a partial split of a piece at a
+abbrev pub partialAt : Mode → List ℕ → Piece → ℕ → Spot
+partialAt m ms q a = partialPlace m (q .start) (mentionPoints (part (q .mentions) ms)) a
+
+-- step 3's split at p, and the register taken for what is left
+abbrev pub takePart : List ℕ → List ℕ → ℕ → State → ℕ → ℕ → ℕ → Outcome
+takePart ms ss cap s k r p = goOn (splitAndQueue (cutting From [] ms ss cap) s k p) (λ t. goes (takeRegister t k r))

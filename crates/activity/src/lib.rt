@@ -1,0 +1,79 @@
+// The activity tracker: how many records are active, and for each register a cursor into its fragments, before which all end before the last start. Cursors only rise, so that of a register's fragments only the one at the cursor is ever looked at.
+use words::read;
+
+pub mod ended;
+pub mod fixed;
+
+ghost use mathlib.Core.Path.{_≡_};
+ghost use Prim.Native.Nat.{ℕ, _+_, _<_, _≤_};
+ghost use lib.ListN.{length};
+ghost use Rattle.activity.specs.Cursors.{Moved, Ready, advanced, freshOf};
+
+// Limits: 64 registers.
+pub const REGISTERS: usize = 64;
+
+pub struct Tracker {
+    pub active: u16,
+    pub cursors: [u16; REGISTERS],
+}
+
+// Nothing is active, and every cursor stands at its register's first fragment.
+pub fn fresh(registers: &[u32]) -> Tracker
+    requires { ⌜ length (now registers) ≤ 64 ⌝ }
+    ensures { λ t. ⌜ t ≡ freshOf (now (registers .entry)) ⌝ }
+{
+    let mut t = Tracker {
+        active: 0,
+        cursors: [0; REGISTERS],
+    };
+    let mut r = 0;
+    while r < registers.len() {
+        let range = read::range_in(registers[r]);
+        t.cursors[r] = range.index;
+        r += 1;
+    }
+    t
+}
+
+// The first fragment of from..stop that does not end before `start`.
+fn moved_past(fragments: &[u32], from: u16, stop: usize, start: u16) -> usize
+    requires { ⌜ (from ≤ stop) × (stop ≤ length (now fragments)) ⌝ }
+    ensures { λ r. ⌜ Moved (now (fragments .entry)) from stop start r ⌝ }
+{
+    let mut f = from as usize;
+    while f < stop {
+        let fragment = read::fragment_in(fragments[f]);
+        if start <= fragment.last {
+            return f;
+        }
+        f += 1;
+    }
+    f
+}
+
+// At each start, for the popped piece's class: so many records are active, and the cursors of its registers move.
+pub fn updated(
+    t: Tracker,
+    registers: &[u32],
+    fragments: &[u32],
+    first: usize,
+    count: usize,
+    start: u16,
+    active: u16,
+) -> Tracker
+    requires { ⌜ Ready (now registers) (now fragments) t first count ⌝ }
+    ensures { λ u. ⌜ u ≡ advanced (now (registers .entry)) (now (fragments .entry)) t first count start active ⌝ }
+{
+    let mut u = t;
+    u.active = active;
+    let end = first + count;
+    let mut r = first;
+    while r < end {
+        let range = read::range_in(registers[r]);
+        let stop = range.index as usize + range.count as usize;
+        let f = moved_past(fragments, u.cursors[r], stop, start);
+        u.cursors[r] = f as u16;
+        r += 1;
+    }
+    u
+}

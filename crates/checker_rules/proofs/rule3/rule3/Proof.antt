@@ -1,0 +1,50 @@
+-- `rule3::rule3` meets its contract: all records passed so far suit.
+-- Assumes nothing.
+use borrow.Author.Needs.{needs}
+use Rattle.checker_rules.proofs.UsableLaws.{rule3-breaks, rule3-holds}
+use Rattle.checker_rules.proofs.SaysLaws.{EachTo, each-starts, each-more, each-breaks, each-ends}
+use Rattle.checker_rules.specs.Usable.{Suits}
+use Prim.Native.Nat.{_-_}
+use Rattle.checker_rules.proofs.rule3.rule3.Statement.{statement}
+use Rattle.checker_rules.proofs.rule3.rule3.Tie as tie
+
+abbrev Inv-loop : tie.InvT-loop
+Inv-loop words count intervals classes k₀ k = EachTo (λ j. Suits words intervals classes j) count k
+
+abbrev μ-loop : tie.MeasureT-loop
+μ-loop words count intervals classes k₀ k = count - k
+
+loop-holds : tie.Need-loop-holds Inv-loop μ-loop
+loop-holds c = each-starts _ _
+
+suits-requires : tie.Need-suits-requires Inv-loop μ-loop
+suits-requires c κs = search needs
+
+returns : tie.Need-returns Inv-loop μ-loop
+returns c = rule3-breaks _ _ _ _ (each-breaks (λ j. Suits _ _ _ j) _ _ _ (c .before .before .loop-test .taken) (c .before .suits .ensures) (c .if1 .taken))
+
+add-k : tie.Need-add-k Inv-loop μ-loop
+add-k c = search needs
+
+loop-less : tie.Need-loop-less Inv-loop μ-loop
+loop-less c = search needs
+
+loop-again : tie.Need-loop-again Inv-loop μ-loop
+loop-again c = each-more _ _ _ _ (c .before .before .before .loop .inv) (c .before .before .loop-test .taken) (c .before .suits .ensures) (c .if1 .left)
+
+returns-2 : tie.Need-returns-2 Inv-loop μ-loop
+returns-2 c = rule3-holds _ _ _ _ (each-ends _ _ _ (c .before .loop .inv) (c .loop-test .left))
+
+pub rule3-spec : {M : Type 1} → statement M
+rule3-spec =
+    tie.close
+    (tie.spec
+    Inv-loop
+    μ-loop
+    loop-holds
+    suits-requires
+    returns
+    add-k
+    loop-less
+    loop-again
+    returns-2)

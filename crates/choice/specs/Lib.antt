@@ -1,0 +1,3 @@
+-- Positions by register.
+pub mod Row
+pub mod Holding

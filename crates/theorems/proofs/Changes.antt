@@ -254,7 +254,7 @@ module _ (g : Given) (ok : Accepted (g .tables)) where
           record {
             usable = h .usable;
             begun = h .begun;
-            tracked = λ l. keep-has (λ j. inRegister (at (s .pieces) j .place) && leb S (at (s .pieces) j .end)) (s .active) (h .tracked l) (rw e (le-leb S (at (s .pieces) k .end) l));
+            tracked = λ l. keep-has (λ j. inRegister (at (s .pieces) j .place) && leb S (at (s .pieces) j .end)) (s .active) (h .tracked l) (rw e (le-leb S (at (s .pieces) k .end) (omega arith)));
             unfixed = h .unfixed;
             safe = h .safe;
           }

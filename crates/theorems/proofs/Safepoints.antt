@@ -155,7 +155,7 @@ module _ (g : Given) (ok : Accepted (g .tables)) (small : g .capacity ≤ 16384)
           let w = whose T ok (at (s .pieces) k) sh u (o .has) in
           let st = c .stays (w .who) (w .inside) (omega (arith, spans T ok (at (s .pieces) k) sh u w .2, o .upto)) in
           let d′ = taken-cut S k r (usePoint x) s t d hi c st in
-          settle-taken S k r t d′ (λ ref l. absurd (no-safe (at (s .pieces) k) (at (t .pieces) k) sh (d′ .inv .core .shape k (d′ .here)) (c .sameInterval) (c .sameStart) h (rw (← ex) (st .1)) l)))
+          settle-taken S k r t d′ (λ ref l. absurd (no-safe (at (s .pieces) k) (at (t .pieces) k) sh (d′ .inv .core .shape k (d′ .here)) (c .sameInterval) (c .sameStart) h (rw (← ex) (st .1)) (omega (arith, l)))))
           (spill-spec g ok small S (But k) s k (d .inv) (d .here) new noslot (inl (inr refl)) (usePoint x) (omega (arith, d .begins, lo)) lo hi (clear u n o)))
 
       choice-ok : (f : Spot) → LastIs (defPoint x) (pointsOf g (at (s .pieces) k)) f → KeepOk g s k x f

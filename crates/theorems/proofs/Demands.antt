@@ -13,10 +13,10 @@ use Rattle.rules.specs.declared.Options.{Options}
 use Rattle.rules.specs.Answers.{number}
 use Rattle.rules.specs.Tables.{Tables}
 use Rattle.rules.specs.Room.{capacity}
-use Rattle.rules.specs.State.{Given, State, Outcome, goes, withQueue, recordOfKey}
+use Rattle.rules.specs.State.{State, Outcome, goes, withQueue, recordOfKey}
 use Rattle.rules.specs.Run.{begin}
 use Rattle.rules.specs.Call.{given, check, runFor, zeroRecords, assign}
-use Rattle.rules.specs.Checker.{HoldBelow, checkAll, Checks}
+use Rattle.rules.specs.Checker.{HoldBelow, Checks}
 use Rattle.rules.proofs.Accepted.{accepted}
 use Rattle.rules.proofs.Keeps.{All, on, off}
 use Rattle.rules.proofs.Runs.{Finished}
@@ -27,7 +27,7 @@ use Rattle.theorems.specs.Proper.{StepOk}
 use Rattle.theorems.proofs.Loop.{begin-inv, reached-inv, turn-ok}
 use Rattle.theorems.proofs.Defined.{reached-defined}
 use Rattle.theorems.proofs.Pops.{done-popped}
-use Rattle.theorems.proofs.Done.{claim, check-tables, done-rules, done-checked, done-accepted}
+use Rattle.theorems.proofs.Done.{claim, check-tables, done-rules, done-accepted}
 
 -- Demand 1. Any input gets an answer, and the run ends: where the checks pass, as many pops as the capacity empty the queue, or the run is refused as 10 to 13.
 pub ends : (m : Mode) (T : Tables) (cap work : ℕ) → check T cap work ≡ Fine → All (Finished (given m T cap)) (runFor m T cap)

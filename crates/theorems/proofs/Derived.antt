@@ -1,27 +1,27 @@
 -- What follows of the invariant once a record is popped and step 1 has run: B4 to B8.
 -- Assumes accepted tables.
-use Prim.Native.Nat.{ℕ, _+_, _≤_, _<_}
-use mathlib.Core.Path.{_≡_, refl, sym, ap, _∙_}
-use mathlib.Core.Logic.{_≢_, _⊎_, inl, inr, ⊎-elim}
-use mathlib.Core.Bool.{Bool, true, false, _||_}
+use Prim.Native.Nat.{ℕ, _≤_, _<_}
+use mathlib.Core.Path.{_≡_, refl}
+use mathlib.Core.Logic.{_≢_, inr, ⊎-elim}
+use mathlib.Core.Bool.{Bool, true, false}
 use mathlib.Core.List.{List, [], _∷_, List·Memᴰ, List·Memᴰ·head, List·Memᴰ·tail}
 use native.Mathlib.Omega.{arith}
 use native.Mathlib.Decide.{decLt}
-use lib.ListN.{length, getD}
+use lib.ListN.{length}
 use Rattle.words.specs.Points.{within}
-use Rattle.words.specs.Packed.{fragmentIn, registerAt, part}
+use Rattle.words.specs.Packed.{fragmentIn, registerAt}
 use Rattle.rules.specs.declared.Place.{Place}
 use Rattle.rules.specs.declared.Place.the-variants.{Nowhere, Register, Slot}
 use Rattle.rules.specs.declared.Pos.the-variants.{At}
 use Rattle.words.specs.declared.Spot.the-variants.{Point}
 use Rattle.rules.specs.Tables.{Tables}
-use Rattle.rules.specs.Accepted.{InRange, fragment, Accepted}
+use Rattle.rules.specs.Accepted.{Accepted}
 use Rattle.rules.specs.Uses.{nextUse}
 use Rattle.rules.specs.State.{Given, State, pointsOf, fragmentsOf}
 use Rattle.rules.specs.Steps.{inRegister, fixedActive, firstStart}
-use Rattle.theorems.specs.Invariant.{at, In, InRegOf, Inv}
+use Rattle.theorems.specs.Invariant.{at, In, InRegOf}
 use Rattle.theorems.proofs.ListLaws.{part-is}
-use Rattle.theorems.proofs.UseLaws.{or-true, Least, NextIs, next-is}
+use Rattle.theorems.proofs.UseLaws.{or-true, Least, next-is}
 use Rattle.theorems.proofs.TableLaws.{whose, spans}
 use Rattle.theorems.proofs.FragmentLaws.{within-true, in-table, unfixed-at, StartIs, start-is}
 use Rattle.theorems.proofs.Changes.{nowhere-register}

@@ -1,25 +1,22 @@
 -- The run: it begins with the invariant, every turn keeps it, and nothing is queued behind the last start popped.
 -- Assumes accepted tables.
-use Prim.Native.Nat.{ℕ, zero, suc, _+_, _*_, _/_, _%_, _≤_, _<_}
-use mathlib.Core.Path.{_≡_, refl, sym, ap, _∙_}
-use mathlib.Core.Logic.{_≢_, _⊎_, inl, inr, ⊎-elim}
+use Prim.Native.Nat.{ℕ, zero, suc, _/_, _≤_, _<_}
+use mathlib.Core.Path.{_≡_, refl, ap, _∙_}
+use mathlib.Core.Logic.{inl, inr, ⊎-elim}
 use mathlib.Core.List.{List, [], _∷_, List·Memᴰ, List·Memᴰ·head, List·Memᴰ·not-nil}
 use native.Mathlib.Omega.{arith}
-use native.Mathlib.Decide.{ℕ-discrete, decLt}
+use native.Mathlib.Decide.{ℕ-discrete}
 use lib.ListN.{length, getD, replicate, length-replicate}
 use Rattle.words.specs.Packed.{intervalCount}
-use Rattle.words.specs.Rows.{tab}
 use Rattle.words.proofs.Rows.{length-tab, getD-tab}
-use Rattle.rules.specs.declared.Home.{Home}
 use Rattle.rules.specs.declared.Home.the-variants.{Unspilled, Spilled}
 use Rattle.rules.specs.declared.Piece.{Piece}
-use Rattle.rules.specs.declared.Place.the-variants.{Nowhere, Register, Slot}
 use Rattle.rules.specs.Tables.{Tables}
-use Rattle.rules.specs.Accepted.{InRange, interval, Accepted}
-use Rattle.rules.specs.State.{Given, State, Outcome, goes, stops, goOn, withQueue, noPiece, recordOfKey, enqueue}
+use Rattle.rules.specs.Accepted.{Accepted}
+use Rattle.rules.specs.State.{Given, State, stops, goOn, withQueue, noPiece, recordOfKey, enqueue}
 use Rattle.rules.specs.Steps.{step}
 use Rattle.rules.specs.Run.{wholeInterval, unqueued, enqueueAll, begin, pop, run}
-use Rattle.theorems.specs.Invariant.{Good, NoOne, at, spilledHomes, Shape, Held, Queued, Slots, Inv, firstPoint, lastPoint}
+use Rattle.theorems.specs.Invariant.{Good, NoOne, at, spilledHomes, Shape, Inv, firstPoint, lastPoint}
 use Rattle.theorems.specs.Reach.{Reached, begins, pops}
 use Rattle.theorems.specs.Proper.{StepOk}
 use Rattle.theorems.proofs.TableLaws.{points-at}

@@ -1,21 +1,21 @@
 -- Every queued record is popped, once: the queue loses a key only by its pop, and only new records are queued.
 -- Assumes accepted tables where it says so.
-use Prim.Native.Nat.{ℕ, zero, suc, _+_, _*_, _/_, _%_, _≤_, _<_}
-use mathlib.Core.Path.{_≡_, refl, sym, ap, _∙_}
+use Prim.Native.Nat.{ℕ, zero, suc, _/_, _≤_, _<_}
+use mathlib.Core.Path.{_≡_, refl}
 use mathlib.Core.Logic.{_≢_, _⊎_, inl, inr, ⊎-elim}
-use mathlib.Core.List.{List, [], _∷_, _++_, List·Memᴰ, List·Memᴰ·head, List·Memᴰ·tail, List·Memᴰ·not-nil}
+use mathlib.Core.List.{List, [], _∷_, List·Memᴰ, List·Memᴰ·head, List·Memᴰ·tail, List·Memᴰ·not-nil}
 use native.Mathlib.Omega.{arith}
 use lib.ListN.{length, length-set, length-append}
 use Rattle.rules.specs.Accepted.{Accepted}
-use Rattle.rules.specs.State.{Given, State, Outcome, goes, stops, goOn, withQueue, put, recordOfKey, insert, enqueue}
-use Rattle.rules.specs.Split.{splitPieces, newRecord}
+use Rattle.rules.specs.State.{Given, State, Outcome, goes, goOn, withQueue, put, recordOfKey, enqueue}
+use Rattle.rules.specs.Split.{splitPieces}
 use Rattle.rules.specs.Steps.{step}
 use Rattle.rules.specs.Run.{pop, run}
 use Rattle.rules.proofs.Keeps.{All, on, off, Closed, step-keeps}
 use Rattle.theorems.specs.Invariant.{Good, NoOne, Inv}
 use Rattle.theorems.specs.Reach.{Passes, here, later, popsFrom, onwards, popsOf, Once, PoppedOnce}
 use Rattle.theorems.proofs.ListLaws.{insert-old, insert-is}
-use Rattle.theorems.proofs.Changes.{Among, Or, inv-pop}
+use Rattle.theorems.proofs.Changes.{Among, inv-pop}
 use Rattle.theorems.proofs.Loop.{turn-keeps}
 
 -- since there were n records, and the queue q: it holds q still, and besides only new records

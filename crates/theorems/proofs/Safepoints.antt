@@ -1,8 +1,8 @@
 -- Step 5: a record that took its register keeps it with Def of its first safepoint as a mention point, or is cut before that safepoint, or is spilled.
 -- Assumes accepted tables.
-use Prim.Native.Nat.{ℕ, _+_, _-_, _*_, _≤_, _<_}
+use Prim.Native.Nat.{ℕ, _+_, _≤_, _<_}
 use mathlib.Core.Path.{_≡_, refl, sym, ap, _∙_}
-use mathlib.Core.Logic.{_≢_, _⊎_, inl, inr, ⊎-elim}
+use mathlib.Core.Logic.{_≢_, inl, inr, ⊎-elim}
 use mathlib.Core.Bool.{Bool, true, false, _&&_}
 use mathlib.Core.List.{List, [], _∷_, List·Memᴰ}
 use native.Mathlib.Omega.{arith}
@@ -10,29 +10,26 @@ use native.Mathlib.Decide.{ℕ-discrete, decLt}
 use borrow.Author.Tests.{eqb-true, eqb-false}
 use lib.Dec.{eqb}
 use lib.ListN.{length, getD}
-use Rattle.words.specs.Choose.{choose}
 use Rattle.words.specs.Points.{usePoint, defPoint}
-use Rattle.words.specs.Packed.{part, intervalCount}
 use Rattle.words.specs.declared.Spot.{Spot}
 use Rattle.words.specs.declared.Spot.the-variants.{Nothing, Point}
 use Rattle.rules.specs.declared.Piece.{Piece}
-use Rattle.rules.specs.declared.Place.{Place}
 use Rattle.rules.specs.declared.Place.the-variants.{Nowhere, Register, Slot}
 use Rattle.rules.specs.Tables.{Tables}
 use Rattle.rules.specs.Accepted.{InRange, interval, safepoint, Accepted}
 use Rattle.rules.specs.Uses.{nextUse, lastUse}
-use Rattle.rules.specs.State.{Given, State, Outcome, goes, stops, goOn, pointsOf, safepointsOf, intervalOf}
+use Rattle.rules.specs.State.{Given, State, goes, goOn, pointsOf, safepointsOf, intervalOf}
 use Rattle.rules.specs.Slots.{spill}
 use Rattle.rules.specs.Split.{splitIfAny, splitAndSpill}
 use Rattle.rules.specs.Steps.{inRegister, keepOrSpill, firstSafepoint, handleSafepoints}
-use Rattle.theorems.specs.Invariant.{Good, NoOne, at, In, firstPoint, lastPoint, useAt, Shape, Usable, Unfixed, SafeOf, Held, Inv, Clear, SpilledAt}
+use Rattle.theorems.specs.Invariant.{Good, NoOne, at, firstPoint, lastPoint, useAt, Shape, Usable, Unfixed, SafeOf, Inv, Clear, SpilledAt}
 use Rattle.theorems.specs.Proper.{KeepOk, FirstOk, SafepointOk}
 use Rattle.theorems.proofs.RunLaws.{run-has}
 use Rattle.theorems.proofs.ListLaws.{length-part, at-part}
 use Rattle.theorems.proofs.UseLaws.{Greatest, LastIs, last-is}
 use Rattle.theorems.proofs.TableLaws.{at-points, has-first, has-last, whose, spans, safepoints-rise, redefined}
 use Rattle.theorems.proofs.Changes.{Or, nowhere-register, register-slot, inv-settle}
-use Rattle.theorems.proofs.Spill.{good-imp, good-if, Above, Tailed, tail-spill, tail-spill-ok, spill-spec, spill-ok}
+use Rattle.theorems.proofs.Spill.{good-imp, good-if, Tailed, tail-spill, tail-spill-ok, spill-spec, spill-ok}
 
 -- no record but k is left out
 abbrev pub But : ℕ → ℕ → Type 0
@@ -158,7 +155,7 @@ module _ (g : Given) (ok : Accepted (g .tables)) (small : g .capacity ≤ 16384)
           let w = whose T ok (at (s .pieces) k) sh u (o .has) in
           let st = c .stays (w .who) (w .inside) (omega (arith, spans T ok (at (s .pieces) k) sh u w .2, o .upto)) in
           let d′ = taken-cut S k r (usePoint x) s t d hi c st in
-          settle-taken S k r t d′ (λ ref l. absurd (no-safe (at (s .pieces) k) (at (t .pieces) k) sh (d′ .inv .core .shape k (d′ .here)) (c .sameInterval) (c .sameStart) h (rw (← ex) (st .1)) l)))
+          settle-taken S k r t d′ (λ ref l. absurd (no-safe (at (s .pieces) k) (at (t .pieces) k) sh (d′ .inv .core .shape k (d′ .here)) (c .sameInterval) (c .sameStart) h (rw (← ex) (st .1)) (omega (arith, l)))))
           (spill-spec g ok small S (But k) s k (d .inv) (d .here) new noslot (inl (inr refl)) (usePoint x) (omega (arith, d .begins, lo)) lo hi (clear u n o)))
 
       choice-ok : (f : Spot) → LastIs (defPoint x) (pointsOf g (at (s .pieces) k)) f → KeepOk g s k x f

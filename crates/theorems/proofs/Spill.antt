@@ -1,43 +1,40 @@
 -- Lemma Split-and-spill: what it needs and what it leaves.
 -- Assumes accepted tables.
-use Prim.Native.Nat.{ℕ, _+_, _-_, _*_, _≤_, _<_, min}
+use Prim.Native.Nat.{ℕ, _+_, _≤_, _<_, min}
 use mathlib.Core.Path.{_≡_, refl, sym, ap, _∙_}
 use mathlib.Core.Logic.{_≢_, _⊎_, inl, inr, ⊎-elim}
-use mathlib.Core.Bool.{Bool, true, false, _&&_}
+use mathlib.Core.Bool.{Bool, true, false}
 use mathlib.Core.List.{List, List·Memᴰ}
 use native.Mathlib.Omega.{arith}
 use native.Mathlib.Decide.{ℕ-discrete, decLt}
-use borrow.Author.Tests.{ltb-true, leb-true}
-use lib.Dec.{ltb, leb}
+use borrow.Author.Tests.{ltb-true}
+use lib.Dec.{ltb}
 use lib.ListN.{length, getD}
 use Rattle.words.specs.Choose.{choose}
 use Rattle.words.specs.Points.{within}
-use Rattle.words.specs.Packed.{part}
 use Rattle.words.specs.declared.Spot.{Spot}
 use Rattle.words.specs.declared.Spot.the-variants.{Nothing, Point}
-use Rattle.rules.specs.declared.Answer.{Answer}
 use Rattle.rules.specs.declared.Answer.the-variants.{NoRecord}
 use Rattle.rules.specs.declared.Home.the-variants.{Unspilled, Spilled}
 use Rattle.rules.specs.declared.Piece.{Piece}
-use Rattle.rules.specs.declared.Place.{Place}
-use Rattle.rules.specs.declared.Place.the-variants.{Nowhere, Register, Slot}
+use Rattle.rules.specs.declared.Place.the-variants.{Nowhere, Slot}
 use Rattle.rules.specs.declared.Strategy.{Strategy}
 use Rattle.rules.specs.Tables.{Tables}
 use Rattle.rules.specs.Accepted.{InRange, Accepted}
-use Rattle.rules.specs.Uses.{mentionPoints, nextUse, lastUse}
+use Rattle.rules.specs.Uses.{nextUse, lastUse}
 use Rattle.rules.specs.State.{Given, State, Outcome, goes, stops, goOn, withPlace, pointsOf, enqueue}
 use Rattle.rules.specs.Slots.{spill}
-use Rattle.rules.specs.Split.{child, parent, stayingMentions, newRecord, splitPieces, split, splitAndQueue, splitIfAny, candidate, orFrom, pick, queueTail, splitAndSpillBy, splitAndSpill}
+use Rattle.rules.specs.Split.{child, parent, stayingMentions, newRecord, split, splitAndQueue, splitIfAny, candidate, orFrom, pick, queueTail, splitAndSpillBy, splitAndSpill}
 use Rattle.rules.proofs.Keeps.{splitState}
-use Rattle.theorems.specs.Invariant.{Good, at, firstPoint, lastPoint, Shape, Held, Inv, Cut, Clear, SpilledAt}
-use Rattle.theorems.specs.Proper.{SplitOk, SpillOk, IfAnyOk, SpillTailOk, SpillByOk, SpillAtOk}
+use Rattle.theorems.specs.Invariant.{Good, at, firstPoint, lastPoint, Shape, Inv, Cut, Clear, SpilledAt}
+use Rattle.theorems.specs.Proper.{SpillOk, IfAnyOk, SpillTailOk, SpillByOk, SpillAtOk}
 use Rattle.theorems.proofs.RunLaws.{CutAt}
 use Rattle.theorems.proofs.UseLaws.{Least, Greatest, NextIs, LastIs, next-is, last-is}
 use Rattle.theorems.proofs.FragmentLaws.{within-true}
-use Rattle.theorems.proofs.PieceLaws.{placed, length-placed, at-placed, at-unplaced, length-split, at-old, at-parent, at-child}
-use Rattle.theorems.proofs.TableLaws.{PointsOf, at-points, has-first, has-last, Whose, whose, spans, cut-mentions}
+use Rattle.theorems.proofs.PieceLaws.{length-placed, at-placed, at-unplaced, length-split, at-old, at-parent, at-child}
+use Rattle.theorems.proofs.TableLaws.{at-points, has-first, has-last, Whose, whose, spans, cut-mentions}
 use Rattle.theorems.proofs.Changes.{Or, nowhere-slot, register-slot, inv-split, inv-enqueue, inv-leave, inv-settle}
-use Rattle.theorems.proofs.Slots.{SpillOf, inv-spill}
+use Rattle.theorems.proofs.Slots.{inv-spill}
 
 -- ---- outcomes
 pub good-on : (P Q : State → Type 0) (x : Outcome) (f : State → Outcome) → Good P x → ((t : State) → P t → Good Q (f t)) → Good Q (goOn x f)

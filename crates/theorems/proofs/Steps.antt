@@ -1,19 +1,17 @@
 -- Steps 1 to 4 for a popped record, and the whole step.
 -- Assumes accepted tables.
-use Prim.Native.Nat.{ℕ, _+_, _-_, _*_, _%_, _≤_, _<_}
+use Prim.Native.Nat.{ℕ, _+_, _%_, _≤_, _<_}
 use mathlib.Core.Path.{_≡_, refl, sym, ap, _∙_}
 use mathlib.Core.Logic.{_≢_, _⊎_, inl, inr, ⊎-elim}
 use mathlib.Core.Bool.{Bool, true, false, _&&_, _||_}
-use mathlib.Core.List.{List, [], _∷_, List·Memᴰ}
+use mathlib.Core.List.{List, List·Memᴰ}
 use native.Mathlib.Omega.{arith}
 use native.Mathlib.Decide.{ℕ-discrete, decLt}
-use borrow.Author.Tests.{eqb-true, eqb-false, ltb-true, ltb-false, leb-true}
+use borrow.Author.Tests.{eqb-false, ltb-true, leb-true}
 use lib.Dec.{eqb, ltb, leb}
-use lib.ListN.{length, getD}
+use lib.ListN.{length}
 use Rattle.words.specs.Choose.{choose}
-use Rattle.words.specs.Points.{usePoint, defPoint}
-use Rattle.words.specs.Packed.{part, registerAt, intervalCount}
-use Rattle.words.specs.declared.Class.{Class}
+use Rattle.words.specs.Packed.{part}
 use Rattle.words.specs.declared.Spot.{Spot}
 use Rattle.words.specs.declared.Spot.the-variants.{Nothing, Point}
 use Rattle.rules.specs.declared.Answer.the-variants.{NoRegister, OutOfRegisters, FixedClash}
@@ -27,23 +25,23 @@ use Rattle.rules.specs.declared.Place.the-variants.{Nowhere, Register, Slot}
 use Rattle.rules.specs.declared.Pos.{Pos}
 use Rattle.rules.specs.declared.Pos.the-variants.{Blocked, At, Never}
 use Rattle.rules.specs.Tables.{Tables}
-use Rattle.rules.specs.Accepted.{InRange, interval, Accepted}
+use Rattle.rules.specs.Accepted.{InRange, Accepted}
 use Rattle.rules.specs.Positions.{below, lowerOf}
 use Rattle.rules.specs.Uses.{isPoint, nextUse, lastUse}
-use Rattle.rules.specs.State.{Given, State, Outcome, goes, stops, goOn, withPlace, withActive, piece, put, pointsOf, intervalOf, classOf, fragmentsOf, enqueue}
+use Rattle.rules.specs.State.{Given, State, goes, stops, goOn, withPlace, piece, put, pointsOf, classOf, fragmentsOf, enqueue}
 use Rattle.rules.specs.Slots.{spill}
-use Rattle.rules.specs.Split.{parent, splitPieces, splitAndQueue, splitIfAny, splitAndSpill, partialSplit}
-use Rattle.rules.specs.Steps.{keep, inRegister, dropEnded, fixedActive, firstStart, holderIn, holder, isHeld, freeUntil, furthestOf, takeRegister, posOfUse, nextUseOf, nextUsePos, spillUntil, cutAt, cutBefore, spillHolder, takeOver, weigh, onlyScratch, blockedBy, allocateBlocked, takeUntil, tryAt, tryTake, allocate, handleSafepoints, step}
+use Rattle.rules.specs.Split.{splitAndQueue, splitIfAny, splitAndSpill, partialSplit}
+use Rattle.rules.specs.Steps.{inRegister, dropEnded, fixedActive, firstStart, holder, isHeld, freeUntil, furthestOf, takeRegister, posOfUse, nextUseOf, nextUsePos, spillUntil, cutAt, cutBefore, spillHolder, takeOver, weigh, onlyScratch, blockedBy, allocateBlocked, takeUntil, tryAt, tryTake, allocate, handleSafepoints, step}
 use Rattle.rules.proofs.Keeps.{splitState}
-use Rattle.theorems.specs.Invariant.{Good, NoOne, at, In, firstPoint, lastPoint, Shape, Usable, Unfixed, Held, Inv, Cut, Clear, SpilledAt}
-use Rattle.theorems.specs.Proper.{SplitOk, SpillOk, IfAnyOk, SpillAtOk, UntilOk, CutAtOk, CutOk, HolderOk, TakeOverOk, WeighOk, BlockedByOk, BlockedOk, TakeUntilOk, TryAtOk, TryTakeOk, AllocateOk, SafepointOk, StepOk}
+use Rattle.theorems.specs.Invariant.{Good, NoOne, at, firstPoint, lastPoint, Shape, Usable, Unfixed, Inv, Cut, Clear, SpilledAt}
+use Rattle.theorems.specs.Proper.{SpillOk, IfAnyOk, SpillAtOk, UntilOk, CutAtOk, CutOk, HolderOk, TakeOverOk, WeighOk, BlockedByOk, BlockedOk, TakeUntilOk, TryAtOk, TryTakeOk, AllocateOk, SafepointOk, StepOk}
 use Rattle.theorems.proofs.ListLaws.{mem-last, keep-passes}
-use Rattle.theorems.proofs.UseLaws.{or-false, Least, Greatest, NextIs, LastIs, next-is, last-is, not-point}
+use Rattle.theorems.proofs.UseLaws.{Least, NextIs, LastIs, next-is, last-is, not-point}
 use Rattle.theorems.proofs.PieceLaws.{placed, length-placed, at-placed, at-unplaced, length-split, at-old, at-parent, at-child}
-use Rattle.theorems.proofs.TableLaws.{at-points, has-first, has-last, Whose, whose, spans}
-use Rattle.theorems.proofs.FragmentLaws.{in-table, unfixed-never, unfixed-at, StartIs, start-is}
+use Rattle.theorems.proofs.TableLaws.{at-points, has-first, has-last, whose, spans}
+use Rattle.theorems.proofs.FragmentLaws.{in-table, unfixed-never, unfixed-at}
 use Rattle.theorems.proofs.ChoiceLaws.{and-true, at-past, Chosen, ChoiceIs, furthest-is, HolderIs, holder-is, lower-above, partial-is}
-use Rattle.theorems.proofs.Changes.{Or, nowhere-register, nowhere-slot, register-slot, inv-split, inv-enqueue, inv-take, inv-drop}
+use Rattle.theorems.proofs.Changes.{nowhere-register, nowhere-slot, register-slot, inv-split, inv-enqueue, inv-take, inv-drop}
 use Rattle.theorems.proofs.Spill.{good-on, good-imp, good-if, good-queue, Above, Tailed, tail-spill, tail-spill-ok, spill-both}
 use Rattle.theorems.proofs.Safepoints.{But, Taken, safepoint-keeps, safepoint-ok}
 

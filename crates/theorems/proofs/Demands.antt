@@ -1,11 +1,12 @@
 -- What is proved of the definitions of `rules`, for every input, in the words of the demands. Each line cites its proof.
 -- Assumes nothing.
 use Prim.Native.Nat.{ℕ, _*_, _≤_}
-use mathlib.Core.Path.{_≡_}
+use mathlib.Core.Path.{_≡_, sym}
 use mathlib.Core.List.{List, [], _∷_}
 use native.Mathlib.Omega.{arith}
 use lib.ListN.{length, drop}
 use Rattle.words.specs.Packed.{recordWords}
+use Rattle.rules.specs.declared.Answer.{Answer}
 use Rattle.rules.specs.declared.Answer.the-variants.{Done}
 use Rattle.rules.specs.declared.Check.the-variants.{Fine}
 use Rattle.rules.specs.declared.Mode.{Mode}
@@ -15,9 +16,10 @@ use Rattle.rules.specs.Tables.{Tables}
 use Rattle.rules.specs.Room.{capacity}
 use Rattle.rules.specs.State.{State, Outcome, goes, withQueue, recordOfKey}
 use Rattle.rules.specs.Run.{begin}
-use Rattle.rules.specs.Call.{given, check, runFor, zeroRecords, assign}
+use Rattle.rules.specs.Call.{given, check, runFor, zeroRecords, assign, Assigned}
 use Rattle.rules.specs.Checker.{HoldBelow, Checks}
 use Rattle.rules.proofs.Accepted.{accepted}
+use Rattle.rules.proofs.Checker.{one-answer}
 use Rattle.rules.proofs.Keeps.{All, on, off}
 use Rattle.rules.proofs.Runs.{Finished}
 use Rattle.rules.proofs.Leaves.{assign-leaves, answers-alone, call-ends, check-room}
@@ -81,3 +83,8 @@ module _ (o : Options) (T : Tables) (out : List ℕ) (work : ℕ) where
 
   pub is-accepted : (n t : ℕ) → assign o T out work .answer ≡ Done n t → Checks T (claim (assign o T out work) n t) (Done n t)
   is-accepted = done-accepted o T out work
+
+-- Demand 3, over the calls. The assigner's contract is `Assigned`, the checker's is `Checks`. Whenever the assigner answers done, whatever the checker answers to its tables, result words, count and total is done with the same count and total.
+pub together : (o : Options) (T : Tables) (out out′ work work′ : List ℕ) (n t : ℕ) (a : Answer) → Assigned o T out out′ work work′ (Done n t) → Checks T (record { words = out′; count = n; total = t }) a → a ≡ Done n t
+together o T out out′ work work′ n t a h c =
+    one-answer T _ a (Done n t) c (rw (h .leaves) (is-accepted o T out (length work) n t (sym (h .answers))))

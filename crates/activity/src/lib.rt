@@ -9,9 +9,12 @@ ghost use Prim.Native.Nat.{ℕ, _+_, _<_, _≤_};
 ghost use lib.ListN.{length};
 ghost use Rattle.activity.specs.Cursors.{Moved, Ready, advanced, freshOf};
 
+// Limits: 64 registers.
+pub const REGISTERS: usize = 64;
+
 pub struct Tracker {
     pub active: u16,
-    pub cursors: [u16; 64],
+    pub cursors: [u16; REGISTERS],
 }
 
 // Nothing is active, and every cursor stands at its register's first fragment.
@@ -21,7 +24,7 @@ pub fn fresh(registers: &[u32]) -> Tracker
 {
     let mut t = Tracker {
         active: 0,
-        cursors: [0; 64],
+        cursors: [0; REGISTERS],
     };
     let mut r = 0;
     while r < registers.len() {

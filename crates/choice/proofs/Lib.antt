@@ -2,3 +2,5 @@
 pub mod PositionLaws
 pub mod FurthestLaws
 pub mod RowLaws
+pub mod HoldingLaws
+pub mod ChoiceLaws

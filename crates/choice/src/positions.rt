@@ -1,4 +1,5 @@
 // Positions compared, and the furthest register of a row.
+use activity::REGISTERS;
 use rules::Choice;
 use rules::Pos;
 ghost use mathlib.Core.Path.{_≡_};
@@ -72,7 +73,7 @@ fn better_of(best: Choice, r: usize, p: Pos, scratch: usize) -> Choice
 }
 
 // The furthest of a class's registers, the lowest of them on ties, never scratch.
-pub fn furthest_of(row: [Pos; 64], first: usize, count: usize, scratch: usize) -> Choice
+pub fn furthest_of(row: [Pos; REGISTERS], first: usize, count: usize, scratch: usize) -> Choice
     requires { ⌜ first + count ≤ 64 ⌝ }
     ensures { λ o. ⌜ o ≡ furthest (posIn row) scratch first count AllBlocked ⌝ }
 {

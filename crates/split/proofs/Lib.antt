@@ -3,3 +3,4 @@ pub mod SplitLaws
 pub mod SpillLaws
 pub mod TurnLaws
 pub mod SpillingLaws
+pub mod NarrowLaws

@@ -20,8 +20,8 @@ ghost use Rattle.checker.specs.Verdict.{claim, Ready, Judges, answerOf};
 const MOST_RECORDS: u32 = 16384;
 
 const RECORD_WORDS: usize = 2;
-// One entry for each point; as slot units, one for each slot and the size of the last.
-const MOST_POINTS: usize = 65544;
+// An entry for each point; as a table of slot units it reaches past the last slot and its size.
+const HEAD_ENTRIES: usize = 65544;
 
 // What the rules say: all hold, or this one is the first that does not.
 pub enum Verdict {
@@ -127,7 +127,7 @@ fn judge(
     requires { ⌜ Ready (tables instructions (now classes) (now registers) (now fragments) (now intervals) (now mentions) (now safepoints)) (claim (now words) count total) ⌝ }
     ensures { λ r. ⌜ Judges (tables instructions (now (classes .entry)) (now (registers .entry)) (now (fragments .entry)) (now (intervals .entry)) (now (mentions .entry)) (now (safepoints .entry))) (claim (now (words .entry)) count total) r ⌝ }
 {
-    let mut head = [0u16; MOST_POINTS];
+    let mut head = [0u16; HEAD_ENTRIES];
     let mut next = [0u16; MOST_RECORDS as usize];
     all_seven(
         instructions,

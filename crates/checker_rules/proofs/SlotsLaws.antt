@@ -36,7 +36,7 @@ size-2 log e = record { is = rw e; pos = omega arith; most = omega arith }
 pub size-3 : (log : ℕ) → log < 4 → (log ≡ 0 → ⊥) → (log ≡ 1 → ⊥) → (log ≡ 2 → ⊥) → Sized log 8
 size-3 log h a b c = let e : log ≡ 3 = omega arith in record { is = rw e; pos = omega arith; most = omega arith }
 
--- ---- one record
+-- one record, after those below k
 module _ (ws : List ℕ) (n k : ℕ) (is sl ow : List ℕ) (top : ℕ) (r : Record) (p : Placed ws k is sl ow top) (h : k < n) (s : Shown ws k r) where
   earlier : (j : ℕ) → Slot ws (k + 1) j → (j ≡ k → ⊥) → Slot ws k j
   earlier j o ne = record { real = omega (arith, o .real); kind = o .kind }
@@ -62,6 +62,7 @@ module _ (ws : List ℕ) (n k : ℕ) (is sl ow : List ℕ) (top : ℕ) (r : Reco
   backs : (v : ℕ) → Back ws k v → Back ws (k + 1) v
   backs v b = record { by = b .by; slot = lift (b .by) (b .slot); names = b .names }
 
+  -- no slot record
   pub put-other : (r .kind ≡ 2 → ⊥) → PutBy ws n (k + 1) is sl ow (Top top)
   put-other nk =
       record {
@@ -81,6 +82,7 @@ module _ (ws : List ℕ) (n k : ℕ) (is sl ow : List ℕ) (top : ℕ) (r : Reco
     me : Slot ws n k
     me = record { real = h; kind = sym (s .kind) ∙ ik }
 
+    -- no multiple of the size
     pub put-misfit : (r .number % z ≡ 0 → ⊥) → PutBy ws n (k + 1) is sl ow Broken
     put-misfit ne = λ total u. ne (rw (s .number, ← size) (u .fits k me))
 
@@ -88,6 +90,7 @@ module _ (ws : List ℕ) (n k : ℕ) (is sl ow : List ℕ) (top : ℕ) (r : Reco
       eold : old ≡ getD sl (intervalOf ws k) 0
       eold = rw (← s .interval) eo
 
+      -- another slot than before
       pub put-differs : (old ≡ 0 → ⊥) → (old ≡ r .number + 1 → ⊥) → PutBy ws n (k + 1) is sl ow Broken
       put-differs nz ne =
           λ total u.
@@ -96,6 +99,7 @@ module _ (ws : List ℕ) (n k : ℕ) (is sl ow : List ℕ) (top : ℕ) (r : Reco
           let g : getD sl (intervalOf ws k) 0 ≡ numberOf ws (b .by) + 1 = rw (b .names) at (p .given (b .by) (b .slot)) in
           ne (omega (arith, eold, s .number))
 
+      -- the same slot as before
       pub put-same : (old ≡ 0 → ⊥) → old ≡ r .number + 1 → r .number % z ≡ 0 → PutBy ws n (k + 1) is sl ow (Top top)
       put-same nz e f =
           let b : Back ws k (intervalOf ws k) = p .back (intervalOf ws k) (omega (arith, eold)) in
@@ -121,6 +125,7 @@ module _ (ws : List ℕ) (n k : ℕ) (is sl ow : List ℕ) (top : ℕ) (r : Reco
         at-b : b ≡ numberOf ws k + sizeAt is (intervalOf ws k)
         at-b = omega (arith, eb, s .number, size)
 
+        -- a unit that another has
         pub put-clash : (c : Bool) → Says c (Unowned ow a b) → not c ≡ true → PutBy ws n (k + 1) is sl ow Broken
         put-clash c d q = λ total u. d .fails (not-true c q) (record { bare = λ x l m. go total u x l m (ℕ-discrete (getD ow x 0) 0) })
           where
@@ -211,13 +216,15 @@ module _ (ws : List ℕ) (n k : ℕ) (is sl ow : List ℕ) (top : ℕ) (r : Reco
               reached (inl e) = rw e (tops top (p .reached))
               reached (inr e) = inr (record { by = k; slot = record { real = omega arith; kind = me .kind }; ends = sym at-b ∙ sym e })
 
+          -- a first slot, above all
           pub put-higher : top < b → PutBy ws n (k + 1) is (set sl (r .interval) x) ow′ (Top b)
           put-higher l = rw (s .interval) (new b (omega arith) (omega arith) (inr refl))
 
+          -- a first slot, not above all
           pub put-lower : b ≤ top → PutBy ws n (k + 1) is (set sl (r .interval) x) ow′ (Top top)
           put-lower l = rw (s .interval) (new top (omega arith) l (inl refl))
 
--- ---- loops over units
+-- units, one after the other
 pub record BareTo (ow : List ℕ) (a b u : ℕ) : Type 0 where
   pub bare : (x : ℕ) → a ≤ x → x < u → getD ow x 0 ≡ 0
   pub from : a ≤ u
@@ -269,7 +276,7 @@ own-more d ow a b name u t h l =
 pub own-ends : (d ow : List ℕ) (a b name u : ℕ) → OwnTo d ow a b name u → b ≤ u → Owned d ow a b name
 own-ends d ow a b name u t h = let q : u ≡ b = omega (arith, t .upto) in rw q at (t .owned)
 
--- ---- all records
+-- all records below k
 pub record Settling (ws : List ℕ) (n k : ℕ) (is sl ow d g : List ℕ) (top : ℕ) : Type 0 where
   pub placed : Placed ws k is sl ow top
   pub upto : k ≤ n
@@ -319,6 +326,7 @@ disowned ow ow′ all e o = record { all = λ u. go u (decLt u all) }
 
 -- the rule
 module _ (ws : List ℕ) (n : ℕ) (is sl ow : List ℕ) (r : Put) (total : ℕ) (e : PutBy ws n n is sl ow r) where
+  -- a record broke it
   pub rule6-broken : r ≡ Broken → Decides6 ws n is total false
   rule6-broken q = let f : (total : ℕ) → Slots ws n is total → ⊥ = rw q at e in decides-6 ws n is total false (says-false (f total))
 
@@ -326,6 +334,7 @@ module _ (ws : List ℕ) (n : ℕ) (is sl ow : List ℕ) (r : Put) (total : ℕ)
     p : Placed ws n is sl ow top
     p = rw q at e
 
+    -- the total is another
     pub rule6-total : (top ≡ total → ⊥) → Decides6 ws n is total false
     rule6-total ne = decides-6 ws n is total false (says-false (λ u. ne (le-antisymm (low u (p .reached)) (high (u .reached)))))
       where
@@ -337,6 +346,7 @@ module _ (ws : List ℕ) (n : ℕ) (is sl ow : List ℕ) (r : Put) (total : ℕ)
         high (inl z) = omega arith
         high (inr m) = omega (arith, p .most (m .by) (m .slot), m .ends)
 
+    -- it holds
     pub rule6-holds : top ≡ total → Decides6 ws n is total true
     rule6-holds w =
         decides-6 ws n is total true

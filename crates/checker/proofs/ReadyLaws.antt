@@ -1,23 +1,20 @@
 -- Sound tables are what the rules' tests go by.
 -- Assumes nothing.
-use Prim.Native.Nat.{ℕ, _+_, _*_, _/_, _%_, _^_, _<_, _≤_}
-use mathlib.Core.List.{List}
-use mathlib.Core.Path.{_≡_, refl}
+use Prim.Native.Nat.{ℕ, _*_, _/_, _%_, _^_, _<_, _≤_}
+use mathlib.Core.Path.{_≡_}
 use native.Mathlib.Omega.{arith}
 use lib.ListN.{length, getD}
 use lib.Pow.{shr-mod}
-use Rattle.words.specs.Packed.{intervalCount, mentionIn, fragmentIn}
 use Rattle.rules.specs.Tables.{Tables}
-use Rattle.rules.specs.Accepted.{interval, Accepted}
+use Rattle.rules.specs.Accepted.{Accepted}
 use Rattle.rules.specs.Placement.{Claim, Rule1, Rule3}
-use Rattle.seek.specs.Seek.{Rising}
-use Rattle.checker_rules.specs.Entries.{kindOf, intervalOf, numberOf, firstOf, lastOf, classOf, startOf, endOf, mentionsFrom, mentionsTo, safepointsFrom, safepointsTo}
+use Rattle.checker_rules.specs.Entries.{intervalOf, classOf, startOf, endOf, mentionsFrom, mentionsTo, safepointsFrom, safepointsTo}
 use Rattle.checker_rules.specs.Order.{Below}
 use Rattle.checker_rules.specs.Tiles.{Within, Tiling}
-use Rattle.checker_rules.specs.Housed.{Row, Rows}
-use Rattle.checker_rules.specs.Usable.{Classes, Suits}
+use Rattle.checker_rules.specs.Housed.{Rows}
+use Rattle.checker_rules.specs.Usable.{Classes}
 use Rattle.checker_rules.specs.Lanes.{Registers}
-use Rattle.checker_rules.specs.Fixed.{Run, Runs}
+use Rattle.checker_rules.specs.Fixed.{Runs}
 use Rattle.checker_rules.specs.Safe.{Points}
 use Rattle.checker_rules.proofs.BridgeLaws.{point-in, in-point, rule1-tiling, rule3-suits}
 use Rattle.checker.specs.Verdict.{Ready}

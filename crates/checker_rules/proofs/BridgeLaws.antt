@@ -6,23 +6,23 @@ use mathlib.Core.Logic.{_⊎_, inl, inr, ⊎-elim}
 use mathlib.Core.Path.{_≡_, refl, sym, _∙_}
 use mathlib.Core.Bool.{Bool, true, false}
 use native.Mathlib.Omega.{arith}
-use lib.ListN.{length, getD}
+use lib.ListN.{getD}
 use Rattle.words.specs.Choose.{choose}
 use Rattle.words.specs.Points.{usePoint, defPoint}
-use Rattle.words.specs.Packed.{intervalCount, mentionIn}
+use Rattle.words.specs.Packed.{mentionIn}
 use Rattle.rules.specs.Uses.{atUse, atDef, pointsIn}
 use Rattle.rules.specs.Tables.{Tables}
 use Rattle.rules.specs.Placement.{Claim, Rule1, Rule2, Rule3, Rule4, Rule5, Rule6, Rule7}
 use Rattle.checker_rules.specs.Says.{Says}
 use Rattle.checker_rules.specs.Entries.{kindOf, intervalOf, spareOf, numberOf, firstOf, lastOf, classOf, referenceOf, sizeAt, startOf, endOf, mentionsFrom, mentionsTo, safepointsFrom, safepointsTo}
-use Rattle.checker_rules.specs.Decides.{Claims, Decides1, Decides2, Decides3, Decides4, Decides5, Decides6, Decides7}
-use Rattle.checker_rules.specs.Tiles.{Sits, Loose, Covers, Once, Tiled, Tiling}
-use Rattle.checker_rules.specs.Housed.{Point, Held, Housed, Housing}
+use Rattle.checker_rules.specs.Decides.{Decides1, Decides2, Decides3, Decides4, Decides5, Decides6, Decides7}
+use Rattle.checker_rules.specs.Tiles.{Sits, Once, Tiling}
+use Rattle.checker_rules.specs.Housed.{Point, Housing}
 use Rattle.checker_rules.specs.Usable.{Suits}
-use Rattle.checker_rules.specs.Lanes.{On, Lanes}
+use Rattle.checker_rules.specs.Lanes.{Lanes}
 use Rattle.checker_rules.specs.Fixed.{Clear}
-use Rattle.checker_rules.specs.Slots.{Slot, Extends, Tops, Slots}
-use Rattle.checker_rules.specs.Safe.{Defined, First, Kept, SafeIn, Safe}
+use Rattle.checker_rules.specs.Slots.{Slot, Slots}
+use Rattle.checker_rules.specs.Safe.{Safe}
 use Rattle.checker_rules.proofs.SaysLaws.{clashes, says-same}
 
 -- the points of a mention, as a list and by cases

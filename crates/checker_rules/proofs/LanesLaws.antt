@@ -1,13 +1,13 @@
 -- Rule 4: what the walk by first points says of each register.
 -- Assumes nothing.
-use Prim.Native.Nat.{ℕ, zero, suc, _+_, _-_, _*_, _<_, _≤_, _^_}
+use Prim.Native.Nat.{ℕ, _+_, _*_, _<_, _≤_}
 use mathlib.Core.List.{List}
 use mathlib.Core.Path.{_≡_, refl, sym, _∙_, ap}
 use mathlib.Core.Bool.{Bool, true, false, not}
-use mathlib.Core.Logic.{_⊎_, inl, inr, ⊎-elim}
+use mathlib.Core.Logic.{_⊎_, inl, inr}
 use borrow.Author.Tests.{not-true, not-false}
 use native.Mathlib.Omega.{arith}
-use native.Mathlib.Decide.{decLt, ℕ-discrete}
+use native.Mathlib.Decide.{ℕ-discrete}
 use lib.ListN.{length, getD, set, length-set}
 use lib.Seq.{getD-set-same, getD-set-other}
 use Rattle.words.specs.declared.Record.{Record}
@@ -15,7 +15,7 @@ use Rattle.checker_rules.specs.declared.Turn.{Turn}
 use Rattle.checker_rules.specs.declared.Turn.the-variants.{Over, Of}
 use Rattle.checker_rules.specs.Says.{Says}
 use Rattle.checker_rules.specs.Entries.{kindOf, numberOf, firstOf, lastOf, Shown}
-use Rattle.checker_rules.specs.Order.{rank, Empty, Linked, Below, Due, Least}
+use Rattle.checker_rules.specs.Order.{rank, Empty, Due, Least}
 use Rattle.checker_rules.specs.Lanes.{On, Lanes, Registers, Entered, Met, Frees}
 use Rattle.checker_rules.proofs.SaysLaws.{clashes, says-true, says-false}
 use Rattle.checker_rules.proofs.OrderLaws.{due, seen, all-seen}

@@ -1,26 +1,26 @@
 -- Rule 7: the first safepoint of a record is the one that the search finds, and the mention there too.
 -- Assumes nothing.
-use Prim.Native.Nat.{ℕ, _+_, _-_, _*_, _/_, _%_, _^_, _<_, _≤_}
+use Prim.Native.Nat.{ℕ, _+_, _*_, _/_, _%_, _^_, _<_, _≤_}
 use mathlib.Core.List.{List}
 use mathlib.Core.Path.{_≡_, refl, sym, _∙_, ap}
 use mathlib.Core.Bool.{Bool, true, false, not, _||_}
-use mathlib.Core.Logic.{_⊎_, inl, inr}
+use mathlib.Core.Logic.{inl, inr}
 use borrow.Author.Tests.{not-true, not-false}
 use native.Mathlib.Omega.{arith}
 use native.Mathlib.Decide.{decLt}
-use lib.ListN.{length, getD}
+use lib.ListN.{getD}
 use lib.Pow.{shr-mod}
 use Rattle.words.specs.declared.Interval.{Interval}
 use Rattle.words.specs.declared.Mention.{Mention}
 use Rattle.words.specs.declared.Record.{Record}
-use Rattle.words.specs.Packed.{intervalCount, mentionIn}
+use Rattle.words.specs.Packed.{mentionIn}
 use Rattle.rules.specs.Uses.{atDef}
 use Rattle.seek.specs.Seek.{Rising, Lower}
 use Rattle.checker_rules.specs.Says.{Says}
-use Rattle.checker_rules.specs.Entries.{kindOf, intervalOf, firstOf, lastOf, referenceOf, mentionsFrom, mentionsTo, safepointsFrom, safepointsTo, Shown, Given}
+use Rattle.checker_rules.specs.Entries.{intervalOf, referenceOf, mentionsTo, safepointsTo, Given}
 use Rattle.checker_rules.specs.Tiles.{Seated}
-use Rattle.checker_rules.specs.Housed.{instructionIn, Point, Row, Rows}
-use Rattle.checker_rules.specs.Safe.{Defined, First, Kept, SafeIn, Safe, Points}
+use Rattle.checker_rules.specs.Housed.{instructionIn, Point, Row}
+use Rattle.checker_rules.specs.Safe.{Defined, First, SafeIn, Safe, Points}
 use Rattle.checker_rules.specs.Decides.{Decides7}
 use Rattle.checker_rules.proofs.SaysLaws.{clashes, says-true, says-false}
 use Rattle.checker_rules.proofs.BridgeLaws.{decides-7}

@@ -1,6 +1,6 @@
 -- Rule 6: a slot unit has one owner, and an interval one slot.
 -- Assumes nothing.
-use Prim.Native.Nat.{ℕ, _+_, _-_, _*_, _/_, _%_, _^_, _<_, _≤_}
+use Prim.Native.Nat.{ℕ, _+_, _-_, _%_, _<_, _≤_}
 use mathlib.Core.List.{List}
 use mathlib.Core.Path.{_≡_, refl, sym, _∙_, ap}
 use mathlib.Core.Bool.{Bool, true, false, not}
@@ -20,7 +20,7 @@ use Rattle.checker_rules.specs.Entries.{kindOf, intervalOf, numberOf, si
 use Rattle.checker_rules.specs.Order.{Empty}
 use Rattle.checker_rules.specs.Slots.{Sized, Slot, Extends, Tops, Slots, Takes, Back, Placed, Unowned, Owned, PutBy}
 use Rattle.checker_rules.specs.Decides.{Decides6}
-use Rattle.checker_rules.proofs.SaysLaws.{clashes, says-true, says-false}
+use Rattle.checker_rules.proofs.SaysLaws.{says-true, says-false}
 use Rattle.checker_rules.proofs.BridgeLaws.{decides-6}
 
 -- sizes

@@ -1,6 +1,6 @@
 -- Rule 1: what the walk by first points says of each point.
 -- Assumes nothing.
-use Prim.Native.Nat.{ℕ, zero, suc, _+_, _-_, _*_, _<_, _≤_, _^_}
+use Prim.Native.Nat.{ℕ, _+_, _*_, _<_, _≤_}
 use mathlib.Core.List.{List}
 use mathlib.Core.Path.{_≡_, refl, sym, _∙_, ap}
 use mathlib.Core.Bool.{Bool, true, false, not}
@@ -17,7 +17,7 @@ use Rattle.words.specs.Packed.{intervalCount}
 use Rattle.checker_rules.specs.declared.Turn.{Turn}
 use Rattle.checker_rules.specs.declared.Turn.the-variants.{Over, Of}
 use Rattle.checker_rules.specs.Says.{Says}
-use Rattle.checker_rules.specs.Entries.{kindOf, spareOf, intervalOf, firstOf, lastOf, startOf, endOf, Shown, Given}
+use Rattle.checker_rules.specs.Entries.{intervalOf, firstOf, lastOf, startOf, endOf, Shown, Given}
 use Rattle.checker_rules.specs.Order.{rank, Linked, Below, Due, Least}
 use Rattle.checker_rules.specs.Tiles.{Known, Sits, Loose, Covers, Once, Tiled, Tiling, Within, Fronts, Fronted, Started, Joined, Seated, Judged}
 use Rattle.checker_rules.proofs.SaysLaws.{clashes, says-true, says-false}

@@ -3,7 +3,7 @@ use Prim.Native.Nat.{ℕ, _+_, _*_, _<_, _≤_}
 use mathlib.Core.List.{List}
 use mathlib.Core.Path.{_≡_}
 use mathlib.Core.Bool.{true}
-use lib.ListN.{getD, length}
+use lib.ListN.{getD}
 use Rattle.words.specs.Packed.{intervalCount}
 use Rattle.seek.specs.Seek.{Rising}
 use Rattle.checker_rules.specs.Entries.{kindOf, intervalOf, firstOf, lastOf, referenceOf, mentionsFrom, mentionsTo, safepointsFrom, safepointsTo}

@@ -1,6 +1,5 @@
 -- `rule6::size_of` meets its contract: the four logarithms, one by one.
 -- Assumes nothing.
-use borrow.Author.Needs.{needs}
 use Rattle.checker_rules.proofs.SlotsLaws.{size-0, size-1, size-2, size-3}
 use Rattle.checker_rules.proofs.rule6.size_of.Statement.{statement}
 use Rattle.checker_rules.proofs.rule6.size_of.Tie as tie

@@ -51,8 +51,8 @@ fn moved_past(fragments: &[u32], from: u16, stop: usize, start: u16) -> usize
     f
 }
 
-// At each start, for the popped piece's class: so many records are active, and the cursors of its registers move.
-pub fn updated(
+// For the popped piece's class: so many records are active, and the cursors of its registers move.
+fn updated(
     t: Tracker,
     registers: &[u32],
     fragments: &[u32],
@@ -75,5 +75,39 @@ pub fn updated(
         u.cursors[r] = f as u16;
         r += 1;
     }
+    u
+}
+
+// The tracker is updated in place, at each start.
+fn update(
+    t: &mut Tracker,
+    registers: &[u32],
+    fragments: &[u32],
+    first: usize,
+    count: usize,
+    start: u16,
+    active: u16,
+)
+    requires { ⌜ Ready (now registers) (now fragments) (now t) first count ⌝ }
+    ensures { λ _. ⌜ now (t .exit) ≡ advanced (now (registers .entry)) (now (fragments .entry)) (now (t .entry)) first count start active ⌝ }
+{
+    *t = updated(*t, registers, fragments, first, count, start, active);
+}
+
+// By value again: the proof of a function that lends a struct is a walk, and with this one no caller needs another.
+pub fn tracked(
+    t: Tracker,
+    registers: &[u32],
+    fragments: &[u32],
+    first: usize,
+    count: usize,
+    start: u16,
+    active: u16,
+) -> Tracker
+    requires { ⌜ Ready (now registers) (now fragments) t first count ⌝ }
+    ensures { λ u. ⌜ u ≡ advanced (now (registers .entry)) (now (fragments .entry)) t first count start active ⌝ }
+{
+    let mut u = t;
+    update(&mut u, registers, fragments, first, count, start, active);
     u
 }

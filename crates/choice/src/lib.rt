@@ -1,4 +1,6 @@
-// The choice of a register: positions by register, as arrays by value, one row for each class, and the furthest of a row.
+// The choice of a register: positions by register, as arrays by value, one row for each class, and the furthest of a row, looked for over a lent slice.
+use rules::Pos;
+
 pub mod held;
 pub mod positions;
 pub mod rows;
@@ -10,4 +12,10 @@ pub const CLASSES: usize = 8;
 pub enum Seat {
     Outside,
     Inside(usize),
+}
+
+// A register and its position.
+pub struct RegPos {
+    pub reg: u16,
+    pub pos: Pos,
 }

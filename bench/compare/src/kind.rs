@@ -212,6 +212,16 @@ const EMPTY_PIECE: [&str; 2] = [
 ];
 
 fn fixed_clash(case: &Case, ours: &Answer, by_identity: &Verdict) -> Kind {
+    // 13 is decided before the split that it replaces. Where that split has no record, the module
+    // meets the end of its room first: with more room it must stop at the same record.
+    if by_identity.answer() == Some(&Answer::refused(NO_RECORD, ours.place)) {
+        return clash_ending(case, ours, &oracle_ties::assign(case, ENDLESS));
+    }
+    clash_ending(case, ours, by_identity)
+}
+
+/// A debug assertion must stop the module where the answer is 13.
+fn clash_ending(case: &Case, ours: &Answer, by_identity: &Verdict) -> Kind {
     match &by_identity.ending {
         Ending::Panicked { record, why }
             if *record == ours.place && EMPTY_PIECE.contains(&why.as_str()) =>

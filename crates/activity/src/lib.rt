@@ -9,9 +9,12 @@ ghost use Prim.Native.Nat.{ℕ, _+_, _<_, _≤_};
 ghost use lib.ListN.{length};
 ghost use Rattle.activity.specs.Cursors.{Moved, Ready, advanced, freshOf};
 
+// Limits: 64 registers.
+pub const REGISTERS: usize = 64;
+
 pub struct Tracker {
     pub active: u16,
-    pub cursors: [u16; 64],
+    pub cursors: [u16; REGISTERS],
 }
 
 // Nothing is active, and every cursor stands at its register's first fragment.
@@ -21,7 +24,7 @@ pub fn fresh(registers: &[u32]) -> Tracker
 {
     let mut t = Tracker {
         active: 0,
-        cursors: [0; 64],
+        cursors: [0; REGISTERS],
     };
     let mut r = 0;
     while r < registers.len() {
@@ -48,8 +51,8 @@ fn moved_past(fragments: &[u32], from: u16, stop: usize, start: u16) -> usize
     f
 }
 
-// At each start, for the popped piece's class: so many records are active, and the cursors of its registers move.
-pub fn updated(
+// For the popped piece's class: so many records are active, and the cursors of its registers move.
+fn updated(
     t: Tracker,
     registers: &[u32],
     fragments: &[u32],
@@ -72,5 +75,39 @@ pub fn updated(
         u.cursors[r] = f as u16;
         r += 1;
     }
+    u
+}
+
+// The tracker is updated in place, at each start.
+fn update(
+    t: &mut Tracker,
+    registers: &[u32],
+    fragments: &[u32],
+    first: usize,
+    count: usize,
+    start: u16,
+    active: u16,
+)
+    requires { ⌜ Ready (now registers) (now fragments) (now t) first count ⌝ }
+    ensures { λ _. ⌜ now (t .exit) ≡ advanced (now (registers .entry)) (now (fragments .entry)) (now (t .entry)) first count start active ⌝ }
+{
+    *t = updated(*t, registers, fragments, first, count, start, active);
+}
+
+// By value again: the proof of a function that lends a struct is a walk, and with this one no caller needs another.
+pub fn tracked(
+    t: Tracker,
+    registers: &[u32],
+    fragments: &[u32],
+    first: usize,
+    count: usize,
+    start: u16,
+    active: u16,
+) -> Tracker
+    requires { ⌜ Ready (now registers) (now fragments) t first count ⌝ }
+    ensures { λ u. ⌜ u ≡ advanced (now (registers .entry)) (now (fragments .entry)) t first count start active ⌝ }
+{
+    let mut u = t;
+    update(&mut u, registers, fragments, first, count, start, active);
     u
 }

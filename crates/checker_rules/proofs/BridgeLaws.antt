@@ -6,21 +6,23 @@ use mathlib.Core.Logic.{_⊎_, inl, inr, ⊎-elim}
 use mathlib.Core.Path.{_≡_, refl, sym, _∙_}
 use mathlib.Core.Bool.{Bool, true, false}
 use native.Mathlib.Omega.{arith}
-use lib.ListN.{length, getD}
+use lib.ListN.{getD}
 use Rattle.words.specs.Choose.{choose}
 use Rattle.words.specs.Points.{usePoint, defPoint}
-use Rattle.words.specs.Packed.{intervalCount, mentionIn}
+use Rattle.words.specs.Packed.{mentionIn}
 use Rattle.rules.specs.Uses.{atUse, atDef, pointsIn}
 use Rattle.rules.specs.Tables.{Tables}
-use Rattle.rules.specs.Placement.{Claim, Rule1, Rule2, Rule3, Rule4, Rule5}
+use Rattle.rules.specs.Placement.{Claim, Rule1, Rule2, Rule3, Rule4, Rule5, Rule6, Rule7}
 use Rattle.checker_rules.specs.Says.{Says}
 use Rattle.checker_rules.specs.Entries.{kindOf, intervalOf, spareOf, numberOf, firstOf, lastOf, classOf, referenceOf, sizeAt, startOf, endOf, mentionsFrom, mentionsTo, safepointsFrom, safepointsTo}
-use Rattle.checker_rules.specs.Decides.{Claims, Decides1, Decides2, Decides3, Decides4, Decides5}
-use Rattle.checker_rules.specs.Tiles.{Sits, Loose, Covers, Once, Tiled, Tiling}
-use Rattle.checker_rules.specs.Housed.{Point, Held, Housed, Housing}
+use Rattle.checker_rules.specs.Decides.{Decides1, Decides2, Decides3, Decides4, Decides5, Decides6, Decides7}
+use Rattle.checker_rules.specs.Tiles.{Sits, Once, Tiling}
+use Rattle.checker_rules.specs.Housed.{Point, Housing}
 use Rattle.checker_rules.specs.Usable.{Suits}
-use Rattle.checker_rules.specs.Lanes.{On, Lanes}
+use Rattle.checker_rules.specs.Lanes.{Lanes}
 use Rattle.checker_rules.specs.Fixed.{Clear}
+use Rattle.checker_rules.specs.Slots.{Slot, Slots}
+use Rattle.checker_rules.specs.Safe.{Safe}
 use Rattle.checker_rules.proofs.SaysLaws.{clashes, says-same}
 
 -- the points of a mention, as a list and by cases
@@ -166,6 +168,60 @@ module _ (T : Tables) (c : Claim) where
             u k (o .0) .clear (o .1) (record { by = f; from = i .0; to = i .1; point = p; after = h .0; before = h .1; starts = g .0; ends = g .1 });
       }
 
+  -- slots by record
+  pub rule6-slots : Rule6 T c → Slots (c .words) (c .count) (T .intervals) (c .total)
+  unfolding kindOf intervalOf numberOf sizeAt
+  rule6-slots r =
+      record {
+        one = λ j k sj sk e. r .one j k (sj .real, sj .kind) (sk .real, sk .kind) e;
+        fits = λ k s. r .multiple k (s .real, s .kind);
+        apart = λ j k u sj sk oj ok. r .apart j k (sj .real, sj .kind) (sk .real, sk .kind) u (oj .from, oj .to) (ok .from, ok .to);
+        most = λ k s. r .most k (s .real, s .kind);
+        reached = ⊎-elim (λ z. inl z) (λ m. inr (record { by = m .0; slot = record { real = m .1 .0; kind = m .1 .1 }; ends = sym (m .2) })) (r .reached);
+      }
+
+  pub slots-rule6 : Slots (c .words) (c .count) (T .intervals) (c .total) → Rule6 T c
+  unfolding kindOf intervalOf numberOf sizeAt
+  slots-rule6 s =
+      record {
+        one = λ j k sj sk e. s .one j k (slot j sj) (slot k sk) e;
+        multiple = λ k o. s .fits k (slot k o);
+        apart = λ j k sj sk u oj ok. s .apart j k u (slot j sj) (slot k sk) (record { from = oj .0; to = oj .1 }) (record { from = ok .0; to = ok .1 });
+        most = λ k o. s .most k (slot k o);
+        reached = ⊎-elim (λ z. inl z) (λ m. inr (m .by, (m .slot .real, m .slot .kind), sym (m .ends))) (s .reached);
+      }
+    where
+      slot : (k : ℕ) → (k < c .count) × (kindOf (c .words) k ≡ 2) → Slot (c .words) (c .count) k
+      slot k o = record { real = o .0; kind = o .1 }
+
+  -- safepoints by index
+  pub rule7-safe : Rule7 T c → (k : ℕ) → k < c .count → Safe (c .words) (T .intervals) (T .mentions) (T .safepoints) k
+  unfolding kindOf intervalOf firstOf lastOf referenceOf mentionsFrom mentionsTo safepointsFrom safepointsTo
+  rule7-safe r k h =
+      record {
+        safe = λ e f. record {
+          each = λ j o.
+              let d = r .defined k (h, e) f j (record { own = (o .from, o .to); inside = (o .after, o .before); least = λ i n l u. o .none i (n .0) l (u .0) (u .1) }) in
+              record { inside = d .0 .1; defined = record { by = d .1 .0; from = d .1 .1 .0; to = d .1 .1 .1; point = in-point _ _ (d .1 .2) } };
+        };
+      }
+
+  pub safe-rule7 : ((k : ℕ) → k < c .count → Safe (c .words) (T .intervals) (T .mentions) (T .safepoints) k) → Rule7 T c
+  unfolding kindOf intervalOf firstOf lastOf referenceOf mentionsFrom mentionsTo safepointsFrom safepointsTo
+  safe-rule7 u =
+      record {
+        defined = λ k o e j f.
+            let d = u k (o .0) .safe (o .1) e .each j
+            record { from = f .own .0; to = f .own .1; after = f .inside .0; before = f .inside .1; none = λ i a l s t. f .least i (a, below (f .own .1) l) l (s, t) } in
+            ((after _ (getD (T .safepoints) j 0) (f .inside .0), d .inside), (d .defined .by, (d .defined .from, d .defined .to), point-in _ _ (d .defined .point)));
+      }
+    where
+      below : {i j h : ℕ} → j < h → i < j → i < h
+      below a b = omega arith
+
+      after : (a s : ℕ) → a ≤ 2 * s → a ≤ 2 * s + 1
+      after a s h = omega arith
+
 -- rule 1
 pub decides-1 : (ws : List ℕ) (n : ℕ) (is : List ℕ) (r : Bool) → Says r (Tiling ws n is) → Decides1 ws n is r
 decides-1 ws n is r s =
@@ -189,3 +245,13 @@ decides-4 ws n r s = record { says = λ T c o. says-same (lanes-rule4 T c) (rule
 pub decides-5 : (ws : List ℕ) (n : ℕ) (rs fs : List ℕ) (r : Bool) → Says r ((k : ℕ) → k < n → Clear ws rs fs k) → Decides5 ws n rs fs r
 decides-5 ws n rs fs r s =
     record { says = λ T c o e f. says-same (clear-rule5 T c) (rule5-clear T c) (rw (o .words, o .count, e, f) s) }
+
+-- rule 6
+pub decides-6 : (ws : List ℕ) (n : ℕ) (is : List ℕ) (total : ℕ) (r : Bool) → Says r (Slots ws n is total) → Decides6 ws n is total r
+decides-6 ws n is total r s =
+    record { says = λ T c o e f. says-same (slots-rule6 T c) (rule6-slots T c) (rw (o .words, o .count, f, e) s) }
+
+-- rule 7
+pub decides-7 : (ws : List ℕ) (n : ℕ) (is ms ss : List ℕ) (r : Bool) → Says r ((k : ℕ) → k < n → Safe ws is ms ss k) → Decides7 ws n is ms ss r
+decides-7 ws n is ms ss r s =
+    record { says = λ T c o e f g. says-same (safe-rule7 T c) (rule7-safe T c) (rw (o .words, o .count, e, f, g) s) }

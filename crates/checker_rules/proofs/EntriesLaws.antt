@@ -1,8 +1,8 @@
 -- What is read is the entry.
 -- Assumes nothing.
-use Prim.Native.Nat.{ℕ, _+_, _*_}
+use Prim.Native.Nat.{ℕ}
 use mathlib.Core.List.{List}
-use mathlib.Core.Path.{_≡_, refl, ap}
+use mathlib.Core.Path.{_≡_, refl}
 use native.Mathlib.Omega.{arith}
 use Rattle.words.specs.declared.Interval.{Interval}
 use Rattle.words.specs.declared.Record.{Record}

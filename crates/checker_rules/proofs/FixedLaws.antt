@@ -14,7 +14,7 @@ use Rattle.words.specs.declared.Record.{Record}
 use Rattle.words.specs.Packed.{rangeIn, fragmentIn}
 use Rattle.seek.specs.Seek.{Rising, Lower}
 use Rattle.checker_rules.specs.Says.{Says}
-use Rattle.checker_rules.specs.Entries.{kindOf, numberOf, firstOf, lastOf, Shown}
+use Rattle.checker_rules.specs.Entries.{Shown}
 use Rattle.checker_rules.specs.Lanes.{Registers}
 use Rattle.checker_rules.specs.Fixed.{firstPoint, lastPoint, fixedFrom, fixedTo, Run, Runs, Meets, Clear}
 use Rattle.checker_rules.specs.Decides.{Decides5}

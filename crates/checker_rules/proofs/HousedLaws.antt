@@ -1,24 +1,23 @@
 -- Rule 2: by rule 1 each point of a mention lies in exactly one record, so that the record which holds one point must hold them all.
 -- Assumes nothing.
-use Prim.Native.Nat.{ℕ, _+_, _-_, _*_, _/_, _^_, _<_, _≤_}
+use Prim.Native.Nat.{ℕ, _+_, _*_, _/_, _<_, _≤_}
 use mathlib.Core.List.{List}
 use mathlib.Core.Path.{_≡_, refl, sym, _∙_, ap}
 use mathlib.Core.Bool.{Bool, true, false, not, _||_}
-use mathlib.Core.Logic.{_⊎_, inl, inr, ⊎-elim}
+use mathlib.Core.Logic.{inl, inr}
 use borrow.Author.Tests.{not-true, not-false}
 use native.Mathlib.Omega.{arith}
 use native.Mathlib.Decide.{decLt}
-use lib.ListN.{length, getD}
+use lib.ListN.{getD}
 use Rattle.words.specs.declared.Interval.{Interval}
 use Rattle.words.specs.declared.Mention.{Mention}
-use Rattle.words.specs.declared.Range.{Range}
 use Rattle.words.specs.declared.Record.{Record}
 use Rattle.words.specs.Packed.{intervalCount, mentionIn}
 use Rattle.rules.specs.Uses.{atUse, atDef}
-use Rattle.seek.specs.Seek.{Rising, Lower}
+use Rattle.seek.specs.Seek.{Lower}
 use Rattle.checker_rules.specs.Says.{Says}
-use Rattle.checker_rules.specs.Entries.{kindOf, intervalOf, firstOf, lastOf, startOf, endOf, mentionsFrom, mentionsTo, Shown, Given}
-use Rattle.checker_rules.specs.Tiles.{Tiling, Covers, Once, Seated}
+use Rattle.checker_rules.specs.Entries.{kindOf, intervalOf, firstOf, lastOf, mentionsFrom, mentionsTo, Given}
+use Rattle.checker_rules.specs.Tiles.{Tiling, Once, Seated}
 use Rattle.checker_rules.specs.Housed.{instructionIn, Point, Pointed, Lowest, Highest, Held, Whole, FitsIn, Row, Rows, Fits, Housed, Housing}
 use Rattle.checker_rules.specs.Decides.{Decides2}
 use Rattle.checker_rules.proofs.SaysLaws.{clashes, says-true, says-false}

@@ -1,13 +1,13 @@
 -- Rule 4: what the walk by first points says of each register.
 -- Assumes nothing.
-use Prim.Native.Nat.{ℕ, zero, suc, _+_, _-_, _*_, _<_, _≤_, _^_}
+use Prim.Native.Nat.{ℕ, _+_, _*_, _<_, _≤_}
 use mathlib.Core.List.{List}
 use mathlib.Core.Path.{_≡_, refl, sym, _∙_, ap}
 use mathlib.Core.Bool.{Bool, true, false, not}
-use mathlib.Core.Logic.{_⊎_, inl, inr, ⊎-elim}
+use mathlib.Core.Logic.{_⊎_, inl, inr}
 use borrow.Author.Tests.{not-true, not-false}
 use native.Mathlib.Omega.{arith}
-use native.Mathlib.Decide.{decLt, ℕ-discrete}
+use native.Mathlib.Decide.{ℕ-discrete}
 use lib.ListN.{length, getD, set, length-set}
 use lib.Seq.{getD-set-same, getD-set-other}
 use Rattle.words.specs.declared.Record.{Record}
@@ -15,12 +15,12 @@ use Rattle.checker_rules.specs.declared.Turn.{Turn}
 use Rattle.checker_rules.specs.declared.Turn.the-variants.{Over, Of}
 use Rattle.checker_rules.specs.Says.{Says}
 use Rattle.checker_rules.specs.Entries.{kindOf, numberOf, firstOf, lastOf, Shown}
-use Rattle.checker_rules.specs.Order.{rank, Empty, Linked, Below, Due, Least}
+use Rattle.checker_rules.specs.Order.{rank, Empty, Due, Least}
 use Rattle.checker_rules.specs.Lanes.{On, Lanes, Registers, Entered, Met, Frees}
 use Rattle.checker_rules.proofs.SaysLaws.{clashes, says-true, says-false}
 use Rattle.checker_rules.proofs.OrderLaws.{due, seen, all-seen}
 
--- ---- enter
+-- one record: a slot record, a register that is not free, a register that is
 pub enter-slot : (e : List ℕ) (r : Record) → (r .kind ≡ 1 → ⊥) → Entered e e r true
 enter-slot e r n =
     record { stays = λ _. refl; moves = λ _ k. absurd (n k); free = λ _ k. absurd (n k); clash = λ z. clashes (sym z); holds = λ z. clashes (sym z); room = refl }
@@ -33,7 +33,7 @@ pub enter-moves : (e : List ℕ) (r : Record) (x : ℕ) → r .kind ≡ 1 → ge
 enter-moves e r x k l q =
     record { stays = λ n. absurd (n k); moves = λ _ _. rw q; free = λ _ _. l; clash = λ z. clashes (sym z); holds = λ z. clashes (sym z); room = length-set e (r .number) x }
 
--- ---- the walk
+-- the walk: whose turn it is, and from where on each register is free
 pub record Entering (ws : List ℕ) (n : ℕ) (d e : List ℕ) (turn : Turn) : Type 0 where
   pub t : ℕ
   pub least : Least ws n t turn
@@ -41,6 +41,7 @@ pub record Entering (ws : List ℕ) (n : ℕ) (d e : List ℕ) (turn : Turn) : T
   pub room : 64 ≤ length e
   pub long : length e ≡ length d
 
+-- before the walk
 pub entering-starts : (ws : List ℕ) (n : ℕ) (e : List ℕ) (turn : Turn) → Empty e → 64 ≤ length e → Least ws n (0 * 16384) turn → Entering ws n e e turn
 entering-starts ws n e turn z r l =
     record {
@@ -57,6 +58,7 @@ entering-starts ws n e turn z r l =
     bare : (q : ℕ) → 0 < getD e q 0 → ⊥
     bare q a = omega (arith, z .all q)
 
+-- after the walk
 pub entering-ends : (ws : List ℕ) (n : ℕ) (d e : List ℕ) (turn : Turn) → Entering ws n d e turn → turn ≡ Over → Says true (Lanes ws n)
 entering-ends ws n d e turn g z =
     says-true record { apart = λ q p j k oj ok. g .frees .alone q p j k oj (all j (oj .real)) ok (all k (ok .real)) }
@@ -73,6 +75,7 @@ module _ (ws : List ℕ) (n : ℕ) (d e e′ : List ℕ) (k : ℕ) (turn : Turn)
   earlier : (j : ℕ) → j < n → rank ws j < g .t → firstOf ws j ≤ firstOf ws k
   earlier j h a = omega (arith, now .from, now .real)
 
+  -- a register that is not free: the record before holds the same point
   pub entering-breaks : not b ≡ true → Says false (Lanes ws n)
   entering-breaks q =
       let f : b ≡ false = not-true b q in
@@ -169,6 +172,7 @@ module _ (ws : List ℕ) (n : ℕ) (d e e′ : List ℕ) (k : ℕ) (turn : Turn)
     step (yes ik) = rw (en .moves ok ik, s .number, s .last) (taken ik)
     step (no nk) = rw (en .stays nk) (slot nk)
 
+    -- a register that is free is taken
     pub entering-more : Entering ws n d e′ turn′
     entering-more =
         record {
@@ -179,5 +183,6 @@ module _ (ws : List ℕ) (n : ℕ) (d e e′ : List ℕ) (k : ℕ) (turn : Turn)
           long = en .room ∙ g .long;
         }
 
+-- a register record has one of the registers
 pub enters : (ws : List ℕ) (n k : ℕ) (r : Record) → Registers ws n 64 → k < n → Shown ws k r → r .kind ≡ 1 → r .number < 64
 enters ws n k r g h s e = rw (s .number) (g .below k h (sym (s .kind) ∙ e))

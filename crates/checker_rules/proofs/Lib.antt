@@ -8,3 +8,5 @@ pub mod UsableLaws
 pub mod LanesLaws
 pub mod FixedLaws
 pub mod HousedLaws
+pub mod SlotsLaws
+pub mod SafeLaws

@@ -1,6 +1,6 @@
 -- Rule 1: what the walk by first points says of each point.
 -- Assumes nothing.
-use Prim.Native.Nat.{ℕ, zero, suc, _+_, _-_, _*_, _<_, _≤_, _^_}
+use Prim.Native.Nat.{ℕ, _+_, _*_, _<_, _≤_}
 use mathlib.Core.List.{List}
 use mathlib.Core.Path.{_≡_, refl, sym, _∙_, ap}
 use mathlib.Core.Bool.{Bool, true, false, not}
@@ -17,14 +17,14 @@ use Rattle.words.specs.Packed.{intervalCount}
 use Rattle.checker_rules.specs.declared.Turn.{Turn}
 use Rattle.checker_rules.specs.declared.Turn.the-variants.{Over, Of}
 use Rattle.checker_rules.specs.Says.{Says}
-use Rattle.checker_rules.specs.Entries.{kindOf, spareOf, intervalOf, firstOf, lastOf, startOf, endOf, Shown, Given}
+use Rattle.checker_rules.specs.Entries.{intervalOf, firstOf, lastOf, startOf, endOf, Shown, Given}
 use Rattle.checker_rules.specs.Order.{rank, Linked, Below, Due, Least}
 use Rattle.checker_rules.specs.Tiles.{Known, Sits, Loose, Covers, Once, Tiled, Tiling, Within, Fronts, Fronted, Started, Joined, Seated, Judged}
 use Rattle.checker_rules.proofs.SaysLaws.{clashes, says-true, says-false}
 use Rattle.checker_rules.proofs.OrderLaws.{due, seen, all-seen}
 use Rattle.checker_rules.proofs.BridgeLaws.{decides-1}
 
--- ---- known
+-- the two kinds are known, and no other
 pub known-one : (k : ℕ) → k ≡ 1 → Says true (Known k)
 known-one k e = says-true (inl e)
 
@@ -34,7 +34,7 @@ known-two k e = says-true (inr e)
 pub known-not : (k : ℕ) → (k ≡ 1 → ⊥) → (k ≡ 2 → ⊥) → Says false (Known k)
 known-not k f g = says-false (λ s. ⊎-elim f g s)
 
--- ---- loose
+-- all records below k sit
 pub record LooseTo (ws : List ℕ) (n k : ℕ) (is : List ℕ) : Type 0 where
   pub loose : Loose ws k is
   pub upto : k ≤ n
@@ -58,7 +58,7 @@ loose-more ws n k is b l h d e = record { loose = record { each = λ j a. go j a
     go j a (yes g) = l .loose .each j g
     go j a (no g) = let m : j ≡ k = omega arith in rw m (d .holds (not-false b e))
 
--- ---- sits
+-- one record: a test that fails, or all that pass
 module _ (ws : List ℕ) (k : ℕ) (is : List ℕ) (r : Record) (s : Shown ws k r) where
   pub sits-kind : (b : Bool) → Says b (Known (r .kind)) → not b ≡ true → Says false (Sits ws is k)
   sits-kind b d e = says-false (λ l. d .fails (not-true b e) (rw (s .kind) (l .known)))
@@ -98,7 +98,7 @@ module _ (ws : List ℕ) (k : ℕ) (is : List ℕ) (r : Record) (s : Shown ws k 
           to = omega (arith, to, s .last);
         }
 
--- ---- starts
+-- the intervals below v have their start
 pub record Starting (is d e : List ℕ) (v : ℕ) : Type 0 where
   pub at : (u : ℕ) → u < v → getD e u 0 ≡ startOf is u
   pub upto : v ≤ intervalCount is
@@ -122,7 +122,7 @@ starting-more is d e v x q g h l z w =
 pub starting-ends : (is d e : List ℕ) (v : ℕ) → Starting is d e v → intervalCount is ≤ v → intervalCount is ≤ length d → Started is e
 starting-ends is d e v g h l = record { at = λ u a. g .at u (omega arith); room = omega (arith, g .long) }
 
--- ---- joined
+-- the walk: whose turn it is, and what was seen before
 pub record Joining (ws : List ℕ) (n : ℕ) (is d e : List ℕ) (turn : Turn) : Type 0 where
   pub t : ℕ
   pub least : Least ws n t turn
@@ -130,6 +130,7 @@ pub record Joining (ws : List ℕ) (n : ℕ) (is d e : List ℕ) (turn : Turn) :
   pub room : intervalCount is ≤ length e
   pub long : length e ≡ length d
 
+-- before the walk
 pub joining-starts : (ws : List ℕ) (n : ℕ) (is e : List ℕ) (turn : Turn) (points : ℕ) → Started is e → Within is points → Least ws n (0 * 16384) turn → Joining ws n is e e turn
 joining-starts ws n is e turn points s w l =
     record {
@@ -154,6 +155,7 @@ joining-starts ws n is e turn points s w l =
     empty : (v p : ℕ) → v < intervalCount is → startOf is v ≤ p → p < getD e v 0 → ⊥
     empty v p h a b = omega (arith, s .at v h)
 
+-- after the walk
 pub joining-ends : (ws : List ℕ) (n : ℕ) (is d e : List ℕ) (turn : Turn) → Joining ws n is d e turn → turn ≡ Over → Joined ws n is e true
 joining-ends ws n is d e turn g z =
     record {
@@ -179,6 +181,7 @@ module _ (ws : List ℕ) (n : ℕ) (is d e : List ℕ) (k : ℕ) (turn : Turn) (
   own : Covers ws n (intervalOf ws k) (firstOf ws k) k
   own = record { real = now .real; names = refl; from = omega arith; to = sat .ordered }
 
+  -- a record that starts elsewhere: a point is held twice, or by none
   pub joining-breaks : (getD e (r .interval) 0 ≡ r .first → ⊥) → Joined ws n is e false
   joining-breaks ne =
       record {
@@ -285,12 +288,13 @@ module _ (ws : List ℕ) (n : ℕ) (is d e : List ℕ) (k : ℕ) (turn : Turn) (
         alone v p i j hi hj (inr a) (inl b) = absurd (below v p j hj b (rw a at hi))
         alone v p i j hi hj (inr a) (inr b) = a ∙ sym b
 
+    -- a record that starts where its interval is to go on
     pub joining-more : Joining ws n is d (set e (r .interval) x) turn′
     joining-more =
         rw (s .interval)
         record { t = rank ws k + 1; least = next; fronts = more; room = more .room; long = length-set e (intervalOf ws k) x ∙ g .long }
 
--- ---- ended
+-- the intervals below v have their end
 pub record EndedTo (is e : List ℕ) (v : ℕ) : Type 0 where
   pub at : (u : ℕ) → u < v → getD e u 0 ≡ endOf is u + 1
   pub upto : v ≤ intervalCount is
@@ -308,6 +312,7 @@ ended-more is e v x q g h z w m = record { at = λ u a. go u a (ℕ-discrete u v
     go u a (yes b) = rw b (omega (arith, z .end))
     go u a (no b) = g .at u (omega arith)
 
+-- an interval that stops short misses a point
 pub ended-breaks : (ws : List ℕ) (n : ℕ) (is e : List ℕ) (v x : ℕ) (q : Interval) → Fronted ws n is e → v < intervalCount is → Given is v q → x ≡ q .end + 1
     → (getD e v 0 ≡ x → ⊥) → Says false (Tiled ws n is)
 ended-breaks ws n is e v x q f h z w m =
@@ -319,6 +324,7 @@ ended-breaks ws n is e v x q f h z w m =
     let b : lastOf ws (o .one) < getD e v 0 = rw (o .covers .names) at p in
     omega (arith, o .covers .to))
 
+-- none does
 pub ended-ends : (ws : List ℕ) (n : ℕ) (is e : List ℕ) (v : ℕ) → Fronted ws n is e → EndedTo is e v → intervalCount is ≤ v → Says true (Tiled ws n is)
 ended-ends ws n is e v f g h =
     says-true
@@ -332,17 +338,18 @@ ended-ends ws n is e v f g h =
           };
     }
 
+-- a record that sits names an interval
 pub seated : (ws : List ℕ) (n : ℕ) (is : List ℕ) (k : ℕ) (r : Record) → Loose ws n is → k < n → Shown ws k r → Seated ws is k r
 seated ws n is k r l h s = record { shown = s; names = rw (s .interval) (l .each k h .names) }
 
--- ---- tiled
+-- what the walk came to
 pub tiled-broken : (ws : List ℕ) (n : ℕ) (is e : List ℕ) (b : Bool) → Joined ws n is e b → not b ≡ true → Says false (Tiled ws n is)
 tiled-broken ws n is e b j q = says-false (j .fails (not-true b q))
 
 pub tiled-fronted : (ws : List ℕ) (n : ℕ) (is e : List ℕ) (b : Bool) → Joined ws n is e b → not b ≡ false → Fronted ws n is e
 tiled-fronted ws n is e b j q = j .holds (not-false b q)
 
--- ---- rule 1
+-- where all records sit, none starts past the last point
 pub below : (ws : List ℕ) (n : ℕ) (is : List ℕ) (points : ℕ) (b : Bool) → Says b (Loose ws n is) → not b ≡ false → Within is points → Below ws n points
 below ws n is points b s e w =
     let l : Loose ws n is = s .holds (not-false b e) in
@@ -354,6 +361,7 @@ below ws n is points b s e w =
 pub loosely : (ws : List ℕ) (n : ℕ) (is : List ℕ) (b : Bool) → Says b (Loose ws n is) → not b ≡ false → Loose ws n is
 loosely ws n is b s e = s .holds (not-false b e)
 
+-- a record that does not sit breaks the rule
 pub rule1-loose : (ws : List ℕ) (n : ℕ) (is head next : List ℕ) (b : Bool) → Says b (Loose ws n is) → not b ≡ true → Judged ws n is head next false
 rule1-loose ws n is head next b s e =
     record {

@@ -9,9 +9,9 @@ use lib.ListN.{length, getD}
 use Rattle.words.specs.declared.Class.{Class}
 use Rattle.words.specs.declared.Interval.{Interval}
 use Rattle.words.specs.declared.Record.{Record}
-use Rattle.words.specs.Packed.{classIn, intervalCount}
+use Rattle.words.specs.Packed.{classIn}
 use Rattle.checker_rules.specs.Says.{Says}
-use Rattle.checker_rules.specs.Entries.{kindOf, intervalOf, numberOf, classOf, Shown, Given}
+use Rattle.checker_rules.specs.Entries.{Given}
 use Rattle.checker_rules.specs.Tiles.{Seated}
 use Rattle.checker_rules.specs.Usable.{Usable, Suits, Classes}
 use Rattle.checker_rules.specs.Decides.{Decides3}

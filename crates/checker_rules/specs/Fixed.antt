@@ -3,7 +3,6 @@ use Prim.Native.Nat.{ℕ, _+_, _^_, _<_, _≤_}
 use mathlib.Core.List.{List}
 use mathlib.Core.Path.{_≡_}
 use lib.ListN.{getD, length}
-use Rattle.words.specs.declared.Range.{Range}
 use Rattle.words.specs.Packed.{registerAt, fragmentIn}
 use Rattle.checker_rules.specs.Entries.{kindOf, numberOf, firstOf, lastOf}
 

@@ -4,7 +4,7 @@ use mathlib.Core.List.{List}
 use mathlib.Core.Path.{_≡_}
 use mathlib.Core.Bool.{true}
 use mathlib.Core.Logic.{_⊎_}
-use lib.ListN.{getD, length}
+use lib.ListN.{getD}
 use Rattle.words.specs.Packed.{intervalCount, mentionIn}
 use Rattle.rules.specs.Uses.{atUse, atDef}
 use Rattle.seek.specs.Seek.{Rising}

@@ -8,3 +8,5 @@ pub mod Usable
 pub mod Lanes
 pub mod Fixed
 pub mod Housed
+pub mod Slots
+pub mod Safe

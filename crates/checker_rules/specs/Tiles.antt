@@ -1,5 +1,5 @@
 -- Rule 1 by records and intervals, and what the walk that tests it knows. `Tiling` and Placement's Rule1 say the same (proofs/BridgeLaws).
-use Prim.Native.Nat.{ℕ, _+_, _*_, _<_, _≤_}
+use Prim.Native.Nat.{ℕ, _+_, _<_, _≤_}
 use mathlib.Core.List.{List}
 use mathlib.Core.Path.{_≡_}
 use mathlib.Core.Logic.{_⊎_}
@@ -7,7 +7,6 @@ use mathlib.Core.Bool.{Bool, true, false}
 use lib.ListN.{getD, length}
 use Rattle.words.specs.declared.Record.{Record}
 use Rattle.words.specs.Packed.{intervalCount}
-use Rattle.checker_rules.specs.Says.{Says}
 use Rattle.checker_rules.specs.Entries.{kindOf, spareOf, intervalOf, firstOf, lastOf, startOf, endOf, Shown}
 use Rattle.checker_rules.specs.Order.{rank, Linked}
 use Rattle.checker_rules.specs.Decides.{Decides1}

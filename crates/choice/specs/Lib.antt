@@ -1,2 +1,3 @@
 -- Positions by register.
 pub mod Row
+pub mod Holding

@@ -1,5 +1,5 @@
 -- Positions by register, as rows of an array: document 01, steps 2 and 4. Facts for contracts.
-use Prim.Native.Nat.{ℕ, _+_, _≤_, _<_}
+use Prim.Native.Nat.{ℕ, zero, suc, _+_, _≤_, _<_}
 use mathlib.Core.Path.{_≡_}
 use mathlib.Core.Bool.{_&&_, not}
 use mathlib.Core.List.{List}
@@ -15,6 +15,7 @@ use Rattle.rules.specs.declared.Choice.the-variants.{Take}
 use Rattle.rules.specs.Positions.{below}
 use Rattle.rules.specs.Steps.{posOf}
 use Rattle.activity.specs.Fixed.{fixedPos}
+use Rattle.choice.specs.declared.RegPos.{RegPos}
 
 -- the position of register r in a row
 abbrev pub posIn : List Pos → ℕ → Pos
@@ -23,6 +24,23 @@ posIn row r = getD row r Blocked
 -- register r at position p, where it lies above the best so far and is not scratch
 unfoldable pub better : ℕ → Choice → ℕ → Pos → Choice
 better scratch best r p = choose (not (eqb r scratch) && below (posOf best) p) (Take r p) best
+
+-- the entry that no register has
+abbrev pub noEntry : RegPos
+noEntry = record { reg = 0; pos = Blocked }
+
+-- register r of a row, with its position
+abbrev pub entryAt : List Pos → ℕ → RegPos
+entryAt row r = record { reg = r; pos = posIn row r }
+
+-- the furthest of n entries from i on, the first of them on ties, never scratch, and the best so far
+unfoldable pub furthestEntry : List RegPos → ℕ → ℕ → ℕ → Choice → Choice
+furthestEntry es scratch i zero best = best
+furthestEntry es scratch i (suc n) best = furthestEntry es scratch (suc i) n (better scratch best (getD es i noEntry .reg) (getD es i noEntry .pos))
+
+-- the registers of a class in order, each with its position
+pub record Entries (row : List Pos) (first count : ℕ) (es : List RegPos) : Type 0 where
+  pub is : (j : ℕ) → j < count → getD es j noEntry ≡ entryAt row (first + j)
 
 -- a class's registers have the positions that their fragments give, the others are as they were
 pub record FixedRow (rs fs : List ℕ) (first count S end : ℕ) (row row′ : List Pos) : Type 0 where

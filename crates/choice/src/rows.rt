@@ -1,4 +1,6 @@
 // Rows of positions, one for each class, and what a class's fragments put into its row.
+use crate::CLASSES;
+use activity::REGISTERS;
 use activity::Tracker;
 use activity::fixed;
 use rules::Pos;
@@ -10,34 +12,34 @@ ghost use Rattle.rules.specs.declared.Pos.the-variants.{Never};
 ghost use Rattle.activity.specs.Cursors.{Facing};
 ghost use Rattle.choice.specs.Row.{FixedRow};
 
-pub fn never_row() -> [Pos; 64]
+pub fn never_row() -> [Pos; REGISTERS]
     ensures { λ row. ⌜ row ≡ replicate 64 Never ⌝ }
 {
-    [Pos::Never; 64]
+    [Pos::Never; REGISTERS]
 }
 
 // The rows of all classes, before anything is popped.
-pub fn never_rows() -> [[Pos; 64]; 8]
+pub fn never_rows() -> [[Pos; REGISTERS]; CLASSES]
     ensures { λ tab. ⌜ tab ≡ replicate 8 (replicate 64 Never) ⌝ }
 {
-    let row = [Pos::Never; 64];
-    [row; 8]
+    let row = [Pos::Never; REGISTERS];
+    [row; CLASSES]
 }
 
 // The row of a class is cleared: as it must be for each piece.
-pub fn cleared(tab: [[Pos; 64]; 8], class: usize) -> [[Pos; 64]; 8]
+pub fn cleared(tab: [[Pos; REGISTERS]; CLASSES], class: usize) -> [[Pos; REGISTERS]; CLASSES]
     requires { ⌜ class < 8 ⌝ }
     ensures { λ o. ⌜ o ≡ set tab class (replicate 64 Never) ⌝ }
 {
     let mut b = tab;
-    let row = [Pos::Never; 64];
+    let row = [Pos::Never; REGISTERS];
     b[class] = row;
     b
 }
 
 // The registers of a class get the positions that their fragments give.
 pub fn fixed_row(
-    row: [Pos; 64],
+    row: [Pos; REGISTERS],
     t: Tracker,
     registers: &[u32],
     fragments: &[u32],
@@ -45,7 +47,7 @@ pub fn fixed_row(
     count: usize,
     start: u16,
     end: u16,
-) -> [Pos; 64]
+) -> [Pos; REGISTERS]
     requires { ⌜ Facing (now registers) (now fragments) start first count t ⌝ }
     ensures { λ o. ⌜ FixedRow (now (registers .entry)) (now (fragments .entry)) first count start end row o ⌝ }
 {

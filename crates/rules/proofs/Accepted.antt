@@ -223,17 +223,26 @@ pub register-good : (T : Tables) → badFixed T ≡ Clean → (r : ℕ) → r < 
 unfolding badFixed
 register-good T e r h = first-good (registerGood T) 0 (length (T .registers)) (else-left _ _ e) r (omega arith) (omega arith)
 
+-- what each check gives
+pub limits-kept : (T : Tables) → checkLimits T ≡ Fine → Limits T
+unfolding checkLimits
+limits-kept T e = limits-sound T (limits-true (inLimits T) e)
+
+pub intervals-kept : (T : Tables) → badInterval T ≡ Clean → (v : ℕ) → v < intervalCount (T .intervals) → IntervalSound T (interval T v)
+intervals-kept T e v h = interval-sound T v (interval-good T e v h)
+
+pub mentions-kept : (T : Tables) → badMention T ≡ Clean → (v : ℕ) → v < intervalCount (T .intervals) → MentionsSound T (interval T v)
+mentions-kept T e v h = mentions-sound T (interval T v) (mention-good T e v h)
+
 -- Document 01, "Sound": tables that pass the checks 3 to 8 are sound.
 pub accepted : (T : Tables) → checkTables T ≡ Fine → Accepted T
-unfolding checkLimits
 accepted T e =
     let p : Passes T = passes T e in
-    let sound : (v : ℕ) → v < intervalCount (T .intervals) → IntervalSound T (interval T v) = λ v h. interval-sound T v (interval-good T (p .interval) v h) in
     record {
-      limits = limits-sound T (limits-true (inLimits T) (p .limits));
+      limits = limits-kept T (p .limits);
       classes = class-sound T (class-good T (p .class));
-      intervals = sound;
-      mentions = λ v h. mentions-sound T (interval T v) (mention-good T (p .mention) v h);
-      safepoints = λ v h. safepoints-sound T (interval T v) (sound v h .mentions) (safepoint-good T (p .safepoint) v h);
+      intervals = intervals-kept T (p .interval);
+      mentions = mentions-kept T (p .mention);
+      safepoints = λ v h. safepoints-sound T (interval T v) (intervals-kept T (p .interval) v h .mentions) (safepoint-good T (p .safepoint) v h);
       fixed = λ r h. fixed-sound T r (register-good T (p .fixed) r h);
     }

@@ -1,12 +1,10 @@
 -- Halving what is still to be searched.
-use Prim.Native.Nat.{ℕ, _+_, _-_, _*_, _/_, _<_, _≤_}
+use Prim.Native.Nat.{ℕ, _+_, _-_, _/_, _<_, _≤_}
 use mathlib.Core.List.{List}
-use mathlib.Core.Path.{_≡_, refl, sym, _∙_, ap}
+use mathlib.Core.Path.{_≡_}
 use native.Mathlib.Omega.{arith}
-use native.Mathlib.Decide.{decLt, ℕ-discrete}
-use native.Mathlib.Nat.{lt-of-lt-of-le}
-use lib.ListN.{length, getD}
-use Rattle.seek.specs.declared.Part.{Part}
+use native.Mathlib.Decide.{decLt}
+use lib.ListN.{getD}
 use Rattle.seek.specs.Seek.{Rising, Seeking, Halved, Lower}
 
 module _ (t : List ℕ) (lo hi x a b m w : ℕ) (r : Rising t lo hi) (s : Seeking t lo hi x a b) (h : a < b) (e : m ≡ a + (b - a) / 2) (f : w ≡ getD t m 0) where

@@ -1,7 +1,6 @@
 -- Facts for contracts: searching a table whose words ascend.
-use Prim.Native.Nat.{ℕ, _+_, _-_, _*_, _<_, _≤_}
+use Prim.Native.Nat.{ℕ, _-_, _<_, _≤_}
 use mathlib.Core.List.{List}
-use mathlib.Core.Path.{_≡_}
 use lib.ListN.{getD, length}
 use Rattle.seek.specs.declared.Part.{Part}
 

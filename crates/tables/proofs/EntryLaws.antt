@@ -4,7 +4,7 @@ use Prim.Native.Nat.{ℕ, zero, suc, _+_, _-_, _*_, _≤_, _<_}
 use mathlib.Core.Path.{_≡_, refl, sym, ap, _∙_}
 use mathlib.Core.Bool.{Bool, true, false, _&&_, _||_, not, and-true}
 use mathlib.Core.List.{List, [], _∷_, _++_}
-use native.Mathlib.Nat.{not-suc-le-zero, le-of-suc-le-suc, add-zero}
+use native.Mathlib.Nat.{not-suc-le-zero, le-of-suc-le-suc}
 use native.Mathlib.Omega.{arith}
 use native.Mathlib.Numerals.{add-one, unary-clauses}
 use lib.ListN.{length, getD, take, drop}
@@ -21,8 +21,8 @@ use Rattle.words.specs.Packed.{intervalAt, intervalCount, mentionIn, registerAt
 use Rattle.words.specs.declared.Range.{Range}
 use Rattle.words.specs.declared.Interval.{Interval}
 use Rattle.words.specs.declared.Mention.{Mention}
-use Rattle.rules.specs.Uses.{atUse, atDef, pointsIn}
-use Rattle.rules.specs.Sound.{every, rangeEnd, endBefore, intervalGood, ascends, mentionGood, first, badUnless, fragmentsGood, endsBefore, registerGood, badMention, badInterval, badFixed, leftovers, orElse}
+use Rattle.rules.specs.Uses.{pointsIn}
+use Rattle.rules.specs.Sound.{every, rangeEnd, endBefore, intervalGood, ascends, mentionGood, first, badUnless, fragmentsGood, registerGood, badMention, badInterval, badFixed, leftovers, orElse}
 use Rattle.tables.specs.declared.Ends.{Ends}
 use Rattle.tables.proofs.WalkLaws.{walk-stops}
 use Rattle.tables.specs.Given.{intervalTables, mentionTables, fixedTables}
@@ -32,9 +32,6 @@ use Rattle.tables.specs.Entries.{Walked, EndsBefore, Ranged, Passed, ran
 end-before : (ranges : ℕ → Range) (k : ℕ) → (k ≡ 0 → ⊥) → endBefore ranges k ≡ rangeEnd (ranges (k - 1))
 end-before ranges zero h = absurd (h refl)
 end-before ranges (suc k) h = simp unary-clauses
-
-pub ends-first : (is : List ℕ) (v : ℕ) (e : Ends) → v ≡ 0 → e .mentions ≡ 0 → e .safepoints ≡ 0 → EndsBefore is v e
-ends-first is v e h m s = record { mentions = rw (h, m); safepoints = rw (h, s) }
 
 pub ends-next : (is : List ℕ) (v : ℕ) (i : Interval) (e : Ends) → (v ≡ 0 → ⊥) → i ≡ intervalAt is (v - 1) → e .mentions ≡ rangeEnd (i .mentions) → e .safepoints ≡ rangeEnd (i .safepoints) → EndsBefore is v e
 ends-next is v i e h f m s =
@@ -106,9 +103,6 @@ pub mention-range : (is ms : List ℕ) (v : ℕ) (i : Interval) → Ranged is ms
 mention-range is ms v i r h e = rw e (r .inside v h)
 
 -- 8: where the fragments of the register before register r end
-pub registers-first : (rs : List ℕ) (r : ℕ) → r ≡ 0 → 0 ≡ endBefore (registerAt rs) r
-registers-first rs r h = rw h
-
 pub registers-next : (rs : List ℕ) (r e : ℕ) (q : Range) → (r ≡ 0 → ⊥) → q ≡ registerAt rs (r - 1) → e ≡ rangeEnd q → e ≡ endBefore (registerAt rs) r
 registers-next rs r e q h f g = g ∙ ap rangeEnd f ∙ sym (end-before (registerAt rs) r h)
 

@@ -2,3 +2,4 @@ pub mod WalkLaws
 pub mod ClassLaws
 pub mod EntryLaws
 pub mod SafepointLaws
+pub mod OrderLaws

@@ -1,15 +1,15 @@
 -- Laws of check 7: in mentions that ascend, at most one is at an instruction, and a search of their words finds it.
 -- Assumes nothing.
-use Prim.Native.Nat.{ℕ, zero, suc, _+_, _-_, _*_, _/_, _%_, _^_, _≤_, _<_}
+use Prim.Native.Nat.{ℕ, zero, suc, _+_, _-_, _*_, _/_, _^_, _≤_, _<_}
 use mathlib.Core.Path.{_≡_, refl, sym, ap, _∙_}
 use mathlib.Core.Bool.{Bool, true, false, _&&_, _||_, not}
 use mathlib.Core.List.{List, [], _∷_}
 use native.Mathlib.Nat.{not-suc-le-zero, le-of-suc-le-suc}
 use native.Mathlib.Omega.{arith}
-use native.Mathlib.Decide.{ℕ-discrete, decLt}
-use lib.ListN.{length, getD, length-take, length-drop}
+use native.Mathlib.Decide.{decLt}
+use lib.ListN.{length, getD}
 use lib.Seq.{getD-take, getD-drop}
-use lib.Dec.{ltb, leb, eqb}
+use lib.Dec.{eqb}
 use borrow.Author.Tests.{ne-eqb}
 use mir.Syntax.{w32}
 use mir.Val.{Fits}
@@ -20,8 +20,6 @@ use Rattle.words.specs.declared.Interval.{Interval}
 use Rattle.words.specs.declared.Mention.{Mention}
 use Rattle.rules.specs.declared.Found.{Found}
 use Rattle.rules.specs.declared.Found.the-variants.{Clean, Bad}
-use Rattle.rules.specs.Uses.{atDef}
-use Rattle.rules.specs.Accepted.{InRange}
 use Rattle.rules.specs.Sound.{every, rangeEnd, ascends, notUsedAlone, safepointGood, badSafepoint}
 use Rattle.rules.proofs.AcceptedLaws.{part-long}
 use Rattle.seek.specs.Seek.{Rising, Lower}

@@ -3,7 +3,7 @@ use crate::read;
 use rules::Found;
 use words::Class;
 ghost use mathlib.Core.Path.{_≡_};
-ghost use Prim.Native.Nat.{_+_, _*_, _<_, _≤_};
+ghost use Prim.Native.Nat.{_+_, _<_, _≤_};
 ghost use lib.ListN.{length};
 ghost use Rattle.rules.specs.Sound.{scratchGood, classGood, badClass};
 ghost use Rattle.tables.specs.Given.{classTables};

@@ -6,7 +6,7 @@ ghost use mathlib.Core.Path.{_≡_};
 ghost use Prim.Native.Nat.{_+_, _-_, _*_, _<_, _≤_};
 ghost use lib.ListN.{length, getD};
 ghost use Rattle.words.specs.Packed.{registerAt};
-ghost use Rattle.rules.specs.Sound.{first, badUnless, endBefore, rangeEnd, fragmentsGood, registerGood, badFixed};
+ghost use Rattle.rules.specs.Sound.{first, badUnless, endBefore, fragmentsGood, registerGood, badFixed};
 ghost use Rattle.tables.specs.Given.{fixedTables};
 ghost use Rattle.tables.specs.Entries.{fragmentGood, between};
 

@@ -6,13 +6,10 @@ use rules::Found;
 use words::Interval;
 ghost use mathlib.Core.Path.{_≡_};
 ghost use Prim.Native.Nat.{_+_, _*_, _<_, _≤_};
-ghost use lib.ListN.{length};
 ghost use Rattle.words.specs.Packed.{intervalCount};
 ghost use Rattle.rules.specs.Sound.{first, badUnless, intervalGood, badInterval};
 ghost use Rattle.tables.specs.Given.{intervalTables};
 ghost use Rattle.tables.specs.Entries.{EndsBefore, extentGood, rangeFits};
-
-const INTERVAL_WORDS: usize = 4;
 
 // Where the ranges of the interval before interval v end: interval v's continue them.
 fn ends_before(intervals: &[u32], v: usize) -> Ends
@@ -66,7 +63,7 @@ fn interval_good(
     ensures { λ r. ⌜ r ≡ intervalGood (intervalTables instructions (now (classes .entry)) (now (intervals .entry)) (now (mentions .entry)) (now (safepoints .entry))) v ⌝ }
 {
     let limit = 2 * instructions;
-    let more = v + 1 < intervals.len() / INTERVAL_WORDS;
+    let more = v + 1 < intervals.len() / read::INTERVAL_WORDS;
     let before = ends_before(intervals, v);
     let i = read::interval_at(intervals, v);
     extent_good(limit, classes.len(), i)
@@ -84,7 +81,7 @@ fn first_interval(
     requires { ⌜ (instructions ≤ 32768) × (intervalCount (now intervals) ≤ 4096) ⌝ }
     ensures { λ r. ⌜ r ≡ first (λ v. badUnless (intervalGood (intervalTables instructions (now (classes .entry)) (now (intervals .entry)) (now (mentions .entry)) (now (safepoints .entry))) v) v) 0 (intervalCount (now (intervals .entry))) ⌝ }
 {
-    let n = intervals.len() / INTERVAL_WORDS;
+    let n = intervals.len() / read::INTERVAL_WORDS;
     let mut v = 0;
     while v < n {
         if !interval_good(instructions, classes, intervals, mentions, safepoints, v) {
@@ -105,7 +102,7 @@ pub(crate) fn bad_interval(
     requires { ⌜ (instructions ≤ 32768) × (intervalCount (now intervals) ≤ 4096) ⌝ }
     ensures { λ r. ⌜ r ≡ badInterval (intervalTables instructions (now (classes .entry)) (now (intervals .entry)) (now (mentions .entry)) (now (safepoints .entry))) ⌝ }
 {
-    let n = intervals.len() / INTERVAL_WORDS;
+    let n = intervals.len() / read::INTERVAL_WORDS;
     let bad = first_interval(instructions, classes, intervals, mentions, safepoints);
     let unused = tests::or_else(
         tests::left_over(n, mentions.len()),

@@ -1,4 +1,5 @@
 // The six tables: their entries read, and the checks 3 to 8 at entry, which the assigner and the checker share.
+pub mod check;
 mod classes;
 mod fixed;
 mod intervals;

@@ -1,4 +1,5 @@
 // 3: a count exceeds its limit, no class, or interval words not a multiple of 4.
+use crate::read;
 use rules::Answer;
 use rules::Check;
 ghost use mathlib.Core.Path.{_≡_};
@@ -19,8 +20,6 @@ const MENTIONS: usize = 16384;
 
 const SAFEPOINTS: usize = 16384;
 
-const INTERVAL_WORDS: usize = 4;
-
 fn in_limits(
     instructions: u32,
     classes: &[u32],
@@ -36,10 +35,10 @@ fn in_limits(
         & ((1 <= classes.len()) & (classes.len() <= CLASSES))
         & (registers.len() <= REGISTERS)
         & (fragments.len() <= FRAGMENTS)
-        & (intervals.len() / INTERVAL_WORDS <= INTERVALS)
+        & (intervals.len() / read::INTERVAL_WORDS <= INTERVALS)
         & (mentions.len() <= MENTIONS)
         & (safepoints.len() <= SAFEPOINTS)
-        & (intervals.len() % INTERVAL_WORDS == 0)
+        & (intervals.len() % read::INTERVAL_WORDS == 0)
 }
 
 pub(crate) fn check_limits(

@@ -10,13 +10,11 @@ ghost use mathlib.Core.List.{[]};
 ghost use Prim.Native.Nat.{_+_, _*_, _<_, _≤_};
 ghost use lib.ListN.{length, getD};
 ghost use Rattle.words.specs.Points.{within};
-ghost use Rattle.words.specs.Packed.{intervalCount, mentionIn};
+ghost use Rattle.words.specs.Packed.{mentionIn};
 ghost use Rattle.rules.specs.Uses.{pointsIn};
 ghost use Rattle.rules.specs.Sound.{every, first, badUnless, ascends, rangeEnd, mentionGood, badMention};
 ghost use Rattle.tables.specs.Given.{mentionTables};
 ghost use Rattle.tables.specs.Entries.{Ranged};
-
-const INTERVAL_WORDS: usize = 4;
 
 // Every point of mention m is in a..e.
 fn points_inside(a: u16, e: u16, m: Mention) -> bool
@@ -79,7 +77,7 @@ pub(crate) fn bad_mention(intervals: &[u32], mentions: &[u32]) -> Found
     requires { ⌜ (Ranged (now intervals) (now mentions)) × (length (now mentions) ≤ 16384) ⌝ }
     ensures { λ r. ⌜ r ≡ badMention (mentionTables (now (intervals .entry)) (now (mentions .entry))) ⌝ }
 {
-    let n = intervals.len() / INTERVAL_WORDS;
+    let n = intervals.len() / read::INTERVAL_WORDS;
     let mut v = 0;
     while v < n {
         let i = read::interval_at(intervals, v);

@@ -8,9 +8,9 @@ use words::read;
 ghost use mathlib.Core.Path.{_≡_};
 ghost use Prim.Native.Nat.{_+_, _*_, _<_, _≤_};
 ghost use lib.ListN.{length, getD};
-ghost use Rattle.words.specs.Packed.{classAt, registerAt, fragmentIn, intervalAt, intervalWords, mentionIn};
+ghost use Rattle.words.specs.Packed.{classAt, registerAt, fragmentIn, intervalAt, intervalCount, intervalWords, mentionIn};
 
-const INTERVAL_WORDS: usize = 4;
+pub const INTERVAL_WORDS: usize = 4;
 
 pub fn class_at(classes: &[u32], c: usize) -> Class
     requires { ⌜ c < length (now classes) ⌝ }
@@ -31,6 +31,12 @@ pub fn fragment_at(fragments: &[u32], f: usize) -> Fragment
     ensures { λ r. ⌜ r ≡ fragmentIn (getD (now (fragments .entry)) f 0) ⌝ }
 {
     read::fragment_in(fragments[f])
+}
+
+pub fn interval_count(intervals: &[u32]) -> usize
+    ensures { λ n. ⌜ n ≡ intervalCount (now (intervals .entry)) ⌝ }
+{
+    intervals.len() / INTERVAL_WORDS
 }
 
 pub fn interval_at(intervals: &[u32], v: usize) -> Interval

@@ -10,12 +10,10 @@ ghost use mathlib.Core.List.{[]};
 ghost use Prim.Native.Nat.{_+_, _*_, _<_, _≤_};
 ghost use lib.ListN.{length, getD};
 ghost use Rattle.words.specs.Points.{usePoint};
-ghost use Rattle.words.specs.Packed.{intervalCount, part};
+ghost use Rattle.words.specs.Packed.{part};
 ghost use Rattle.rules.specs.Sound.{every, ascends, rangeEnd, notUsedAlone, safepointGood, badSafepoint};
 ghost use Rattle.tables.specs.Given.{safepointTables};
 ghost use Rattle.tables.specs.Entries.{Ascending, Placed, safepointFind};
-
-const INTERVAL_WORDS: usize = 4;
 
 // What a mention word has below its instruction.
 const BELOW_INSTRUCTION: u64 = 131072;
@@ -89,7 +87,7 @@ pub(crate) fn bad_safepoint(intervals: &[u32], mentions: &[u32], safepoints: &[u
     requires { ⌜ (Placed (now intervals) (now mentions) (now safepoints)) × (length (now safepoints) ≤ 16384) ⌝ }
     ensures { λ r. ⌜ r ≡ badSafepoint (safepointTables (now (intervals .entry)) (now (mentions .entry)) (now (safepoints .entry))) ⌝ }
 {
-    let n = intervals.len() / INTERVAL_WORDS;
+    let n = intervals.len() / read::INTERVAL_WORDS;
     let mut v = 0;
     while v < n {
         let i = read::interval_at(intervals, v);

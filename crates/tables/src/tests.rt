@@ -2,7 +2,7 @@
 use rules::Found;
 use words::Range;
 ghost use mathlib.Core.Path.{_≡_};
-ghost use Prim.Native.Nat.{_+_, _*_, _<_, _≤_};
+ghost use Prim.Native.Nat.{_+_, _<_};
 ghost use Rattle.words.specs.Points.{within};
 ghost use Rattle.rules.specs.Sound.{orElse, rangeEnd, leftovers};
 ghost use Rattle.tables.specs.Entries.{rangeFits};

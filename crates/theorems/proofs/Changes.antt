@@ -1,33 +1,32 @@
 -- The small changes of a state, each with what it keeps of the invariant: split, queue, give a place, and the record that the invariant leaves out for a while.
 -- Assumes accepted tables.
-use Prim.Native.Nat.{ℕ, suc, _+_, _-_, _*_, _%_, _≤_, _<_}
+use Prim.Native.Nat.{ℕ, suc, _+_, _*_, _≤_, _<_}
 use mathlib.Core.Path.{_≡_, refl, sym, ap, _∙_}
 use mathlib.Core.Logic.{_≢_, _⊎_, inl, inr, ⊎-elim}
-use mathlib.Core.Bool.{Bool, true, false, _&&_}
-use mathlib.Core.List.{List, [], _∷_, _++_, List·Memᴰ, List·Memᴰ·head, List·Memᴰ·tail}
+use mathlib.Core.Bool.{Bool, _&&_}
+use mathlib.Core.List.{List, _∷_, List·Memᴰ, List·Memᴰ·head, List·Memᴰ·tail}
 use native.Mathlib.Omega.{arith}
 use native.Mathlib.Decide.{ℕ-discrete, decLt}
 use borrow.Author.Tests.{le-leb}
 use lib.Dec.{leb}
 use lib.ListN.{length, getD}
-use Rattle.words.specs.Points.{usePoint, defPoint}
-use Rattle.words.specs.declared.Range.{Range}
+use Rattle.words.specs.Points.{defPoint}
 use Rattle.rules.specs.declared.Home.{Home}
 use Rattle.rules.specs.declared.Home.the-variants.{Unspilled, Spilled}
 use Rattle.rules.specs.declared.Piece.{Piece}
 use Rattle.rules.specs.declared.Place.{Place}
 use Rattle.rules.specs.declared.Place.the-variants.{Nowhere, Register, Slot}
 use Rattle.rules.specs.Tables.{Tables}
-use Rattle.rules.specs.Accepted.{InRange, safepoint, interval, Accepted}
-use Rattle.rules.specs.State.{Given, State, withPieces, withQueue, withActive, withPlace, recordOfKey, insert, enqueue, put}
-use Rattle.rules.specs.Split.{parent, child, splitPieces, stayingMentions, stayingSafepoints}
+use Rattle.rules.specs.Accepted.{InRange, safepoint, Accepted}
+use Rattle.rules.specs.State.{Given, State, withQueue, recordOfKey, insert, enqueue, put}
+use Rattle.rules.specs.Split.{parent, splitPieces, stayingMentions, stayingSafepoints}
 use Rattle.rules.specs.Steps.{keep, inRegister, dropEnded, takeRegister}
 use Rattle.rules.proofs.Keeps.{splitState}
-use Rattle.theorems.specs.Invariant.{Asc, at, In, Clash, Queued, IsSpilled, firstPoint, lastPoint, useAt, Shape, SafeOf, InRegOf, Held, Core, Slots, Inv, Cut, Clear}
+use Rattle.theorems.specs.Invariant.{Asc, at, In, Clash, Queued, IsSpilled, firstPoint, lastPoint, useAt, Shape, SafeOf, Held, Slots, Inv, Cut, Clear}
 use Rattle.theorems.proofs.RunLaws.{CutAt}
-use Rattle.theorems.proofs.ListLaws.{mem-last, mem-left, insert-new, insert-old, insert-is, asc-low, asc-from, asc-insert, keep-has}
-use Rattle.theorems.proofs.PieceLaws.{placed, length-placed, at-placed, at-unplaced, placed-ind, length-split, at-old, at-parent, at-child, split-ind}
-use Rattle.theorems.proofs.TableLaws.{PointsOf, at-points, cut-mentions, cut-safepoints}
+use Rattle.theorems.proofs.ListLaws.{mem-left, insert-new, insert-old, insert-is, asc-low, asc-from, asc-insert, keep-has}
+use Rattle.theorems.proofs.PieceLaws.{placed, length-placed, at-placed, at-unplaced, placed-ind, length-split, split-ind}
+use Rattle.theorems.proofs.TableLaws.{at-points, cut-mentions, cut-safepoints}
 use Rattle.theorems.proofs.Parts.{split-same, core-split, core-placed}
 
 -- those of X, and j
@@ -248,9 +247,6 @@ module _ (g : Given) (ok : Accepted (g .tables)) where
         used = i .used;
       }
     where
-      stays : ℕ → Bool
-      stays j = inRegister (at (s .pieces) j .place) && leb S (at (s .pieces) j .end)
-
       go : (k : ℕ) (w : Place) → at (s .pieces) k .place ≡ w → Held T S (s .queue) (s .active) (s .homes) k (at (s .pieces) k) w
           → Held T S (s .queue) (keep (λ j. inRegister (at (s .pieces) j .place) && leb S (at (s .pieces) j .end)) (s .active)) (s .homes) k (at (s .pieces) k) w
       go k Nowhere e h = h
@@ -258,7 +254,7 @@ module _ (g : Given) (ok : Accepted (g .tables)) where
           record {
             usable = h .usable;
             begun = h .begun;
-            tracked = λ l. keep-has (λ j. inRegister (at (s .pieces) j .place) && leb S (at (s .pieces) j .end)) (s .active) (h .tracked l) (rw e (le-leb S (at (s .pieces) k .end) l));
+            tracked = λ l. keep-has (λ j. inRegister (at (s .pieces) j .place) && leb S (at (s .pieces) j .end)) (s .active) (h .tracked l) (rw e (le-leb S (at (s .pieces) k .end) (omega arith)));
             unfixed = h .unfixed;
             safe = h .safe;
           }
@@ -278,9 +274,6 @@ module _ (g : Given) (ok : Accepted (g .tables)) where
         used = i .used;
       }
     where
-      k : ℕ
-      k = recordOfKey x
-
       asc : Asc 0 (x ∷ xs)
       asc = rw e at (i .ordered)
 

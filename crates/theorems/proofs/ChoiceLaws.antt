@@ -1,9 +1,9 @@
 -- The register that is chosen, the record that holds it, positions, and the place of a partial split.
 -- Assumes nothing.
-use Prim.Native.Nat.{ℕ, zero, suc, _+_, _*_, _/_, _%_, _≤_, _<_}
+use Prim.Native.Nat.{ℕ, zero, suc, _+_, _%_, _≤_, _<_}
 use mathlib.Core.Path.{_≡_, refl, sym, ap, _∙_}
-use mathlib.Core.Logic.{_≢_, _⊎_, inl, inr}
-use mathlib.Core.Bool.{Bool, true, false, _&&_, _||_, not}
+use mathlib.Core.Logic.{_≢_}
+use mathlib.Core.Bool.{Bool, true, false, _&&_, not}
 use mathlib.Core.List.{List, [], _∷_, List·Memᴰ, List·Memᴰ·head, List·Memᴰ·tail, List·Memᴰ·not-nil}
 use native.Mathlib.Omega.{arith}
 use borrow.Author.Tests.{eqb-true, eqb-false, eq-eqb, ltb-true, ltb-false, leb-true, leb-false}
@@ -26,7 +26,7 @@ use Rattle.rules.specs.declared.Pos.the-variants.{Blocked, At, Never}
 use Rattle.rules.specs.Positions.{below, lowerOf}
 use Rattle.rules.specs.Uses.{lastUse}
 use Rattle.rules.specs.Split.{orStart, ifAbove, nearEnd, nearUse, partialPlace}
-use Rattle.rules.specs.State.{State, noPiece, piece}
+use Rattle.rules.specs.State.{State, noPiece}
 use Rattle.rules.specs.Steps.{isRegister, holderIn, posOf, furthest}
 use Rattle.theorems.specs.Invariant.{at}
 
@@ -165,9 +165,6 @@ pub partial-is : (m : Mode) (start : ℕ) (points : List ℕ) (a p : ℕ) → ((
 unfolding partialPlace
 partial-is m start points a p f e = go (m .«partial_split») (m .«partial_split_near_end») e
   where
-    v : ℕ
-    v = orStart start (lastUse a points)
-
     low : start ≤ orStart start (lastUse a points)
     low = by (lastUse a points) refl
       where

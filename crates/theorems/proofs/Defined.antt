@@ -1,12 +1,9 @@
 -- Nothing is ill-defined: every state at the head of the loop has its numbers within bounds.
 -- Assumes accepted tables.
-use Prim.Native.Nat.{ℕ, _+_, _*_, _/_, _≤_, _<_}
-use mathlib.Core.Path.{_≡_}
-use mathlib.Core.List.{List·Memᴰ}
+use Prim.Native.Nat.{ℕ, _≤_, _<_}
 use native.Mathlib.Omega.{arith}
 use lib.ListN.{length}
 use Rattle.words.specs.Packed.{intervalCount}
-use Rattle.rules.specs.declared.Place.the-variants.{Register, Slot}
 use Rattle.rules.specs.Accepted.{Accepted}
 use Rattle.rules.specs.State.{Given, State, recordOfKey}
 use Rattle.theorems.specs.Invariant.{NoOne, at, Inv}

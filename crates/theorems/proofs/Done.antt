@@ -1,15 +1,15 @@
 -- Every done result obeys the placement rules, so the checker accepts it.
 -- Assumes nothing.
-use Prim.Native.Nat.{ℕ, _+_, _*_, _/_, _≤_, _<_, min}
-use mathlib.Core.Path.{_≡_, refl, sym, ap, _∙_}
+use Prim.Native.Nat.{ℕ, _*_, _≤_}
+use mathlib.Core.Path.{_≡_, refl, sym, ap}
 use mathlib.Core.Bool.{Bool, true, false, _||_}
-use mathlib.Core.List.{List, [], _++_}
+use mathlib.Core.List.{List}
 use native.Mathlib.Omega.{arith}
 use borrow.Author.Tests.{ltb-true}
 use lib.Dec.{ltb}
 use lib.ListN.{length, drop}
 use Rattle.words.specs.Choose.{choose}
-use Rattle.words.specs.Packed.{intervalCount, recordWords}
+use Rattle.words.specs.Packed.{recordWords}
 use Rattle.rules.specs.declared.Answer.{Answer}
 use Rattle.rules.specs.declared.Answer.the-variants.{Done, OverLimit}
 use Rattle.rules.specs.declared.Asked.{Asked}
@@ -19,18 +19,17 @@ use Rattle.rules.specs.declared.Check.the-variants.{Fine, Refused}
 use Rattle.rules.specs.declared.Mode.{Mode}
 use Rattle.rules.specs.declared.Options.{Options}
 use Rattle.rules.specs.Answers.{number}
-use Rattle.rules.specs.Accepted.{Accepted}
 use Rattle.rules.specs.Tables.{Tables}
 use Rattle.rules.specs.Room.{capacity, strategyOf}
 use Rattle.rules.specs.Sound.{andThen, checkTables}
-use Rattle.rules.specs.State.{Given, State, Outcome, goes, stops}
-use Rattle.rules.specs.Call.{Result, packRecords, writeRecords, finish, check, given, modeOf, runFor, assignBy, assign, unlessRefused}
+use Rattle.rules.specs.State.{Outcome, goes}
+use Rattle.rules.specs.Call.{Result, finish, check, given, modeOf, runFor, assignBy, assign, unlessRefused}
 use Rattle.rules.specs.Placement.{Claim}
 use Rattle.rules.specs.Checker.{checkClaim, checkAll, HoldBelow, Checks, accepted}
 use Rattle.rules.proofs.Accepted as sound
 use Rattle.rules.proofs.Keeps.{All, on, off}
 use Rattle.rules.proofs.Runs.{Finished}
-use Rattle.rules.proofs.Leaves.{AtEntry, passes, refuses, Leaves, assign-leaves, check-entry, check-room, call-ends}
+use Rattle.rules.proofs.Leaves.{AtEntry, refuses, assign-leaves, check-entry, check-room, call-ends}
 use Rattle.theorems.specs.Invariant.{Good, NoOne, Inv}
 use Rattle.theorems.proofs.Loop.{begin-inv, run-keeps}
 use Rattle.theorems.proofs.Rules.{record-is, fits, rules-hold}

@@ -1,8 +1,8 @@
 -- The fragments of a register: what is not fixed-active at S, and has its first start in S..end at b, meets nothing of S..b - 1.
 -- Assumes accepted tables.
-use Prim.Native.Nat.{ℕ, _+_, _≤_, _<_}
+use Prim.Native.Nat.{ℕ, _≤_, _<_}
 use mathlib.Core.Path.{_≡_, refl, sym, ap, _∙_}
-use mathlib.Core.Bool.{Bool, true, false, _&&_, _||_}
+use mathlib.Core.Bool.{Bool, true, false, _&&_}
 use mathlib.Core.List.{List, [], _∷_, List·Memᴰ, List·Memᴰ·head, List·Memᴰ·tail, List·Memᴰ·not-nil}
 use native.Mathlib.Omega.{arith}
 use native.Mathlib.Decide.{decLt}
@@ -18,7 +18,7 @@ use Rattle.rules.specs.Tables.{Tables}
 use Rattle.rules.specs.Accepted.{InRange, fragment, interval, Accepted}
 use Rattle.rules.specs.Positions.{lowerOf}
 use Rattle.rules.specs.Steps.{fixedActive, firstStart}
-use Rattle.theorems.specs.Invariant.{Unfixed, Usable, classOf}
+use Rattle.theorems.specs.Invariant.{Unfixed, Usable}
 use Rattle.theorems.proofs.ListLaws.{part-has, part-is}
 use Rattle.theorems.proofs.UseLaws.{or-false}
 
@@ -60,9 +60,6 @@ module _ (S e : ℕ) where
   start-is [] = λ w m u v. List·Memᴰ·not-nil m
   start-is (x ∷ ws) = go (within S e (fragmentIn x .first)) refl (firstStart S e ws) (start-is ws)
     where
-      a : ℕ
-      a = fragmentIn x .first
-
       skip : (S ≤ fragmentIn x .first → fragmentIn x .first ≤ e → ⊥) → (p : Pos) → StartIs ws p → StartIs (x ∷ ws) p
       skip n Blocked k = k
       skip n Never k = by

@@ -15,4 +15,6 @@ pub mod Loop
 pub mod Rules
 pub mod Done
 pub mod Defined
+pub mod Pops
+pub mod Derived
 pub mod Demands

@@ -1,30 +1,28 @@
 -- The run: it begins with the invariant, every turn keeps it, and nothing is queued behind the last start popped.
 -- Assumes accepted tables.
-use Prim.Native.Nat.{ℕ, zero, suc, _+_, _*_, _/_, _%_, _≤_, _<_}
-use mathlib.Core.Path.{_≡_, refl, sym, ap, _∙_}
-use mathlib.Core.Logic.{_≢_, _⊎_, inl, inr, ⊎-elim}
+use Prim.Native.Nat.{ℕ, zero, suc, _/_, _≤_, _<_}
+use mathlib.Core.Path.{_≡_, refl, ap, _∙_}
+use mathlib.Core.Logic.{inl, inr, ⊎-elim}
 use mathlib.Core.List.{List, [], _∷_, List·Memᴰ, List·Memᴰ·head, List·Memᴰ·not-nil}
 use native.Mathlib.Omega.{arith}
-use native.Mathlib.Decide.{ℕ-discrete, decLt}
+use native.Mathlib.Decide.{ℕ-discrete}
 use lib.ListN.{length, getD, replicate, length-replicate}
 use Rattle.words.specs.Packed.{intervalCount}
-use Rattle.words.specs.Rows.{tab}
 use Rattle.words.proofs.Rows.{length-tab, getD-tab}
-use Rattle.rules.specs.declared.Home.{Home}
 use Rattle.rules.specs.declared.Home.the-variants.{Unspilled, Spilled}
 use Rattle.rules.specs.declared.Piece.{Piece}
-use Rattle.rules.specs.declared.Place.the-variants.{Nowhere, Register, Slot}
 use Rattle.rules.specs.Tables.{Tables}
-use Rattle.rules.specs.Accepted.{InRange, interval, Accepted}
-use Rattle.rules.specs.State.{Given, State, Outcome, goes, stops, goOn, withQueue, noPiece, recordOfKey, enqueue}
+use Rattle.rules.specs.Accepted.{Accepted}
+use Rattle.rules.specs.State.{Given, State, stops, goOn, withQueue, noPiece, recordOfKey, enqueue}
 use Rattle.rules.specs.Steps.{step}
 use Rattle.rules.specs.Run.{wholeInterval, unqueued, enqueueAll, begin, pop, run}
-use Rattle.theorems.specs.Invariant.{Good, NoOne, at, spilledHomes, Shape, Held, Queued, Slots, Inv, firstPoint, lastPoint}
+use Rattle.theorems.specs.Invariant.{Good, NoOne, at, spilledHomes, Shape, Inv, firstPoint, lastPoint}
 use Rattle.theorems.specs.Reach.{Reached, begins, pops}
+use Rattle.theorems.specs.Proper.{StepOk}
 use Rattle.theorems.proofs.TableLaws.{points-at}
 use Rattle.theorems.proofs.Changes.{Or, inv-enqueue, inv-pop}
 use Rattle.theorems.proofs.Spill.{good-on}
-use Rattle.theorems.proofs.Steps.{step-keeps}
+use Rattle.theorems.proofs.Steps.{step-keeps, step-ok}
 
 no-home : (n v t : ℕ) → getD (replicate n Unspilled) v Unspilled ≡ Spilled t → ⊥
 no-home zero v t e = let q : _≡_ {A = ℕ} 0 1 = cc in omega arith
@@ -153,6 +151,14 @@ module _ (g : Given) (ok : Accepted (g .tables)) (small : g .capacity ≤ 16384)
       let q = i .queued x m in
       let b = pop-start l s x i m in
       step-keeps g ok small (x / 16384) (recordOfKey x) (withQueue xs s) (rw b at (inv-pop g ok l s NoOne x xs small i e)) (q .here) (q .free) b
+
+  -- each split and each spill of the turn is proper
+  pub turn-ok : (l : ℕ) (s : State) (x : ℕ) (xs : List ℕ) → Inv g l NoOne s → s .queue ≡ x ∷ xs → StepOk g (withQueue xs s) (recordOfKey x)
+  turn-ok l s x xs i e =
+      let m : List·Memᴰ x (s .queue) = rw e (List·Memᴰ·head refl) in
+      let q = i .queued x m in
+      let b = pop-start l s x i m in
+      step-ok g ok small (x / 16384) (recordOfKey x) (withQueue xs s) (rw b at (inv-pop g ok l s NoOne x xs small i e)) (q .here) (q .free) b
 
   -- every state at the loop's head has it
   pub reached-inv : N ≤ g .capacity → (l : ℕ) (s : State) → Reached g l s → Inv g l NoOne s

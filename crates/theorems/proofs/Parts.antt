@@ -1,21 +1,19 @@
 -- A1 to A4 through a split and a change of place.
 -- Assumes accepted tables.
 use Prim.Native.Nat.{ℕ, _+_, _-_, _≤_, _<_}
-use mathlib.Core.Path.{_≡_, refl, sym, ap, _∙_}
-use mathlib.Core.Logic.{_≢_}
+use mathlib.Core.Path.{_≡_, refl, sym, _∙_}
 use mathlib.Core.List.{List}
 use native.Mathlib.Omega.{arith}
 use native.Mathlib.Decide.{ℕ-discrete, decLt}
 use lib.ListN.{length}
-use Rattle.words.specs.Packed.{intervalCount}
 use Rattle.rules.specs.declared.Piece.{Piece}
 use Rattle.rules.specs.declared.Place.{Place}
 use Rattle.rules.specs.Tables.{Tables}
-use Rattle.rules.specs.Accepted.{InRange, interval, Accepted}
+use Rattle.rules.specs.Accepted.{Accepted}
 use Rattle.rules.specs.State.{Given, withPlace}
 use Rattle.rules.specs.Split.{parent, child, splitPieces, stayingMentions, stayingSafepoints}
-use Rattle.theorems.specs.Invariant.{Run, firstPoint, lastPoint, useAt, Shape, at, Apart, Covers, Parts, Core, Cut}
-use Rattle.theorems.proofs.RunLaws.{CutAt, run-parent, run-child}
+use Rattle.theorems.specs.Invariant.{Shape, at, Apart, Covers, Parts, Core, Cut}
+use Rattle.theorems.proofs.RunLaws.{run-parent, run-child}
 use Rattle.theorems.proofs.PieceLaws.{placed, length-placed, at-placed, at-unplaced, placed-ind, length-split, at-old, at-parent, at-child, split-ind}
 use Rattle.theorems.proofs.TableLaws.{cut-mentions, cut-safepoints}
 

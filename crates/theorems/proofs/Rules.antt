@@ -1,18 +1,17 @@
 -- At the end of a run: the invariant, and nothing queued, give the placement rules 1 to 7 of the records written.
 -- Assumes accepted tables.
-use Prim.Native.Nat.{ℕ, zero, suc, _+_, _*_, _%_, _^_, _≤_, _<_}
+use Prim.Native.Nat.{ℕ, zero, suc, _+_, _*_, _^_, _≤_, _<_}
 use mathlib.Core.Path.{_≡_, refl, sym, ap, _∙_}
 use mathlib.Core.Logic.{_≢_, _⊎_, inl, inr, ⊎-elim}
 use mathlib.Core.Bool.{true}
-use mathlib.Core.List.{List, [], _∷_, _++_, List·Memᴰ, List·Memᴰ·not-nil}
+use mathlib.Core.List.{List, [], _∷_, _++_, List·Memᴰ·not-nil}
 use native.Mathlib.Omega.{arith}
 use native.Mathlib.Decide.{ℕ-discrete, decLt}
 use lib.ListN.{length, getD}
-use Rattle.words.specs.Points.{usePoint, defPoint}
-use Rattle.words.specs.Packed.{sizeOf, intervalCount, recordAt, recordIn, recordRow, RecordFits}
+use Rattle.words.specs.Points.{defPoint}
+use Rattle.words.specs.Packed.{sizeOf, intervalCount, recordAt, recordIn, RecordFits}
 use Rattle.words.specs.declared.Record.{Record}
 use Rattle.words.proofs.Packed.{record-back}
-use Rattle.rules.specs.declared.Home.{Home}
 use Rattle.rules.specs.declared.Home.the-variants.{Unspilled, Spilled}
 use Rattle.rules.specs.declared.Piece.{Piece}
 use Rattle.rules.specs.declared.Place.{Place}
@@ -21,7 +20,7 @@ use Rattle.rules.specs.Tables.{Tables}
 use Rattle.rules.specs.Accepted.{InRange, interval, safepoint, Accepted}
 use Rattle.rules.specs.State.{Given, State}
 use Rattle.rules.specs.Call.{kindOf, numberOf, recordFor, packRecords}
-use Rattle.rules.specs.Placement.{Claim, rec, Holds, InRegister, InSlot, IsPointOf, Rule1, Rule2, Rule3, Rule4, Rule5, Rule6, FirstSafepoint, Rule7, Rule}
+use Rattle.rules.specs.Placement.{Claim, rec, Holds, InRegister, InSlot, IsPointOf, Rule1, Rule2, Rule3, Rule4, Rule5, Rule6, Rule7}
 use Rattle.rules.specs.Checker.{HoldBelow}
 use Rattle.theorems.specs.Invariant.{NoOne, at, firstPoint, lastPoint, useAt, Shape, InRegOf, Held, Inv}
 use Rattle.theorems.proofs.RunLaws.{run-has}

@@ -1,8 +1,8 @@
 -- Step 5: a record that took its register keeps it with Def of its first safepoint as a mention point, or is cut before that safepoint, or is spilled.
 -- Assumes accepted tables.
-use Prim.Native.Nat.{ℕ, _+_, _-_, _*_, _≤_, _<_}
+use Prim.Native.Nat.{ℕ, _+_, _≤_, _<_}
 use mathlib.Core.Path.{_≡_, refl, sym, ap, _∙_}
-use mathlib.Core.Logic.{_≢_, _⊎_, inl, inr, ⊎-elim}
+use mathlib.Core.Logic.{_≢_, inl, inr, ⊎-elim}
 use mathlib.Core.Bool.{Bool, true, false, _&&_}
 use mathlib.Core.List.{List, [], _∷_, List·Memᴰ}
 use native.Mathlib.Omega.{arith}
@@ -10,28 +10,26 @@ use native.Mathlib.Decide.{ℕ-discrete, decLt}
 use borrow.Author.Tests.{eqb-true, eqb-false}
 use lib.Dec.{eqb}
 use lib.ListN.{length, getD}
-use Rattle.words.specs.Choose.{choose}
 use Rattle.words.specs.Points.{usePoint, defPoint}
-use Rattle.words.specs.Packed.{part, intervalCount}
 use Rattle.words.specs.declared.Spot.{Spot}
 use Rattle.words.specs.declared.Spot.the-variants.{Nothing, Point}
 use Rattle.rules.specs.declared.Piece.{Piece}
-use Rattle.rules.specs.declared.Place.{Place}
 use Rattle.rules.specs.declared.Place.the-variants.{Nowhere, Register, Slot}
 use Rattle.rules.specs.Tables.{Tables}
 use Rattle.rules.specs.Accepted.{InRange, interval, safepoint, Accepted}
 use Rattle.rules.specs.Uses.{nextUse, lastUse}
-use Rattle.rules.specs.State.{Given, State, Outcome, goes, stops, goOn, pointsOf, safepointsOf, intervalOf}
+use Rattle.rules.specs.State.{Given, State, goes, goOn, pointsOf, safepointsOf, intervalOf}
 use Rattle.rules.specs.Slots.{spill}
 use Rattle.rules.specs.Split.{splitIfAny, splitAndSpill}
 use Rattle.rules.specs.Steps.{inRegister, keepOrSpill, firstSafepoint, handleSafepoints}
-use Rattle.theorems.specs.Invariant.{Good, NoOne, at, In, firstPoint, lastPoint, useAt, Shape, Usable, Unfixed, SafeOf, Held, Inv, Clear, SpilledAt}
+use Rattle.theorems.specs.Invariant.{Good, NoOne, at, firstPoint, lastPoint, useAt, Shape, Usable, Unfixed, SafeOf, Inv, Clear, SpilledAt}
+use Rattle.theorems.specs.Proper.{KeepOk, FirstOk, SafepointOk}
 use Rattle.theorems.proofs.RunLaws.{run-has}
 use Rattle.theorems.proofs.ListLaws.{length-part, at-part}
 use Rattle.theorems.proofs.UseLaws.{Greatest, LastIs, last-is}
 use Rattle.theorems.proofs.TableLaws.{at-points, has-first, has-last, whose, spans, safepoints-rise, redefined}
 use Rattle.theorems.proofs.Changes.{Or, nowhere-register, register-slot, inv-settle}
-use Rattle.theorems.proofs.Spill.{good-imp, good-if, Above, Tailed, tail-spill, spill-spec}
+use Rattle.theorems.proofs.Spill.{good-imp, good-if, Tailed, tail-spill, tail-spill-ok, spill-spec, spill-ok}
 
 -- no record but k is left out
 abbrev pub But : ℕ → ℕ → Type 0
@@ -157,8 +155,34 @@ module _ (g : Given) (ok : Accepted (g .tables)) (small : g .capacity ≤ 16384)
           let w = whose T ok (at (s .pieces) k) sh u (o .has) in
           let st = c .stays (w .who) (w .inside) (omega (arith, spans T ok (at (s .pieces) k) sh u w .2, o .upto)) in
           let d′ = taken-cut S k r (usePoint x) s t d hi c st in
-          settle-taken S k r t d′ (λ ref l. absurd (no-safe (at (s .pieces) k) (at (t .pieces) k) sh (d′ .inv .core .shape k (d′ .here)) (c .sameInterval) (c .sameStart) h (rw (← ex) (st .1)) l)))
+          settle-taken S k r t d′ (λ ref l. absurd (no-safe (at (s .pieces) k) (at (t .pieces) k) sh (d′ .inv .core .shape k (d′ .here)) (c .sameInterval) (c .sameStart) h (rw (← ex) (st .1)) (omega (arith, l)))))
           (spill-spec g ok small S (But k) s k (d .inv) (d .here) new noslot (inl (inr refl)) (usePoint x) (omega (arith, d .begins, lo)) lo hi (clear u n o)))
+
+      choice-ok : (f : Spot) → LastIs (defPoint x) (pointsOf g (at (s .pieces) k)) f → KeepOk g s k x f
+      choice-ok Nothing n = tail-spill-ok g ok small S NoOne s k (d .inv) (d .here) (λ o. o) noslot (defPoint x) (omega (arith, d .begins, lo)) (omega (arith, lo)) (λ m a. n _ (has-first T ok (at (s .pieces) k) sh m a))
+      choice-ok (Point u) o = λ n. spill-ok g ok small S (But k) s k (d .inv) (d .here) new noslot (inl (inr refl)) (usePoint x) (omega (arith, d .begins, lo)) lo hi (clear u n o)
+
+    fits : at (s .pieces) k .safepoints .index + at (s .pieces) k .safepoints .count ≤ length (T .safepoints)
+    fits = omega (arith, sh .safes, ok .intervals (at (s .pieces) k .interval) (sh .named) .safepoints)
+
+    long : length (safepointsOf g (at (s .pieces) k)) ≡ at (s .pieces) k .safepoints .count
+    long = length-part (at (s .pieces) k .safepoints) (T .safepoints) fits
+
+    -- the first safepoint is the first entry of the run
+    first-is : (x : ℕ) (xs : List ℕ) → safepointsOf g (at (s .pieces) k) ≡ x ∷ xs → (0 < at (s .pieces) k .safepoints .count) × (x ≡ safepoint T (at (s .pieces) k .safepoints .index))
+    first-is x xs e =
+        let n : length (x ∷ xs) ≡ length (safepointsOf g (at (s .pieces) k)) = sym (ap length e) in
+        let h : 0 < at (s .pieces) k .safepoints .count = omega (arith, long) in
+        let i : at (s .pieces) k .safepoints .index + 0 ≡ at (s .pieces) k .safepoints .index = omega arith in
+        (h, sym (ap (λ (ys : List ℕ). getD ys 0 0) e) ∙ at-part (at (s .pieces) k .safepoints) (T .safepoints) fits 0 h ∙ ap (safepoint T) i)
+
+    -- its splits and spills are proper
+    pub safepoint-ok : SafepointOk g s k
+    safepoint-ok e = by (safepointsOf g (at (s .pieces) k)) refl
+      where
+        by : (xs : List ℕ) → safepointsOf g (at (s .pieces) k) ≡ xs → FirstOk g s k xs
+        by [] e = tt
+        by (x ∷ xs) e = let o = first-is x xs e in choice-ok (o .0) x (o .1) (lastUse (defPoint x) (pointsOf g (at (s .pieces) k))) (last-is (defPoint x) (pointsOf g (at (s .pieces) k)))
 
     -- the whole step
     pub safepoint-keeps : Good (Inv g S NoOne) (handleSafepoints g s k)
@@ -168,14 +192,6 @@ module _ (g : Given) (ok : Accepted (g .tables)) (small : g .capacity ≤ 16384)
         (λ e. by (safepointsOf g (at (s .pieces) k)) refl)
         (λ e. settle-taken S k r s d (λ ref l. let z : _≡_ {A = Bool} true false = sym (rw (d .place) ref) ∙ e in let o : _≡_ {A = ℕ} 0 1 = cc in absurd (omega arith)))
       where
-        long : length (safepointsOf g (at (s .pieces) k)) ≡ at (s .pieces) k .safepoints .count
-        long = length-part (at (s .pieces) k .safepoints) (T .safepoints) (omega (arith, sh .safes, ok .intervals (at (s .pieces) k .interval) (sh .named) .safepoints))
-
         by : (xs : List ℕ) → safepointsOf g (at (s .pieces) k) ≡ xs → Good (Inv g S NoOne) (firstSafepoint g s k xs)
         by [] e = settle-taken S k r s d (λ ref l. let n : 0 ≡ length (safepointsOf g (at (s .pieces) k)) = sym (ap length e) in absurd (omega (arith, long)))
-        by (x ∷ xs) e =
-            let n : length (x ∷ xs) ≡ length (safepointsOf g (at (s .pieces) k)) = sym (ap length e) in
-            let h : 0 < at (s .pieces) k .safepoints .count = omega (arith, long) in
-            let i : at (s .pieces) k .safepoints .index + 0 ≡ at (s .pieces) k .safepoints .index = omega arith in
-            choice h x (sym (ap (λ (ys : List ℕ). getD ys 0 0) e) ∙ at-part (at (s .pieces) k .safepoints) (T .safepoints) (omega (arith, sh .safes, ok .intervals (at (s .pieces) k .interval) (sh .named) .safepoints)) 0 h ∙ ap (safepoint T) i)
-            (lastUse (defPoint x) (pointsOf g (at (s .pieces) k))) (last-is (defPoint x) (pointsOf g (at (s .pieces) k)))
+        by (x ∷ xs) e = let o = first-is x xs e in choice (o .0) x (o .1) (lastUse (defPoint x) (pointsOf g (at (s .pieces) k))) (last-is (defPoint x) (pointsOf g (at (s .pieces) k)))

@@ -1,6 +1,6 @@
 -- D2 and D3: the slots, and the spill of a record.
 -- Assumes accepted tables.
-use Prim.Native.Nat.{ℕ, zero, suc, _+_, _-_, _*_, _/_, _%_, _^_, _≤_, _<_}
+use Prim.Native.Nat.{ℕ, zero, suc, _+_, _*_, _%_, _^_, _≤_, _<_}
 use mathlib.Core.Path.{_≡_, refl, sym, ap, _∙_}
 use mathlib.Core.Logic.{_≢_, _⊎_, inl, inr, ⊎-elim}
 use mathlib.Core.List.{List, [], _∷_}
@@ -12,8 +12,6 @@ use Rattle.words.specs.Packed.{sizeOf, intervalCount, intervalWords}
 use Rattle.words.proofs.Field.{bits-lt}
 use Rattle.rules.specs.declared.Home.{Home}
 use Rattle.rules.specs.declared.Home.the-variants.{Unspilled, Spilled}
-use Rattle.rules.specs.declared.Piece.{Piece}
-use Rattle.rules.specs.declared.Place.{Place}
 use Rattle.rules.specs.declared.Place.the-variants.{Slot}
 use Rattle.rules.specs.Tables.{Tables}
 use Rattle.rules.specs.Accepted.{interval, Accepted}
@@ -21,7 +19,7 @@ use Rattle.rules.specs.State.{Given, State, put, intervalOf}
 use Rattle.rules.specs.Slots.{roundUp, spillTo, spill}
 use Rattle.theorems.specs.Invariant.{at, spilledHomes, Slots, Inv}
 use Rattle.theorems.proofs.PieceLaws.{placed}
-use Rattle.theorems.proofs.Changes.{Among, Within, inv-place}
+use Rattle.theorems.proofs.Changes.{Within, inv-place}
 
 -- "rounded up to a multiple of its size", for the sizes 1, 2, 4, 8: a multiple, not below, and with its size within 8 more than a multiple of 8 that is not below
 pub record Rounded (n z t : ℕ) : Type 0 where

@@ -1,42 +1,40 @@
 -- Lemma Split-and-spill: what it needs and what it leaves.
 -- Assumes accepted tables.
-use Prim.Native.Nat.{ℕ, _+_, _-_, _*_, _≤_, _<_, min}
+use Prim.Native.Nat.{ℕ, _+_, _≤_, _<_, min}
 use mathlib.Core.Path.{_≡_, refl, sym, ap, _∙_}
 use mathlib.Core.Logic.{_≢_, _⊎_, inl, inr, ⊎-elim}
-use mathlib.Core.Bool.{Bool, true, false, _&&_}
+use mathlib.Core.Bool.{Bool, true, false}
 use mathlib.Core.List.{List, List·Memᴰ}
 use native.Mathlib.Omega.{arith}
 use native.Mathlib.Decide.{ℕ-discrete, decLt}
-use borrow.Author.Tests.{ltb-true, leb-true}
-use lib.Dec.{ltb, leb}
+use borrow.Author.Tests.{ltb-true}
+use lib.Dec.{ltb}
 use lib.ListN.{length, getD}
 use Rattle.words.specs.Choose.{choose}
 use Rattle.words.specs.Points.{within}
-use Rattle.words.specs.Packed.{part}
 use Rattle.words.specs.declared.Spot.{Spot}
 use Rattle.words.specs.declared.Spot.the-variants.{Nothing, Point}
-use Rattle.rules.specs.declared.Answer.{Answer}
 use Rattle.rules.specs.declared.Answer.the-variants.{NoRecord}
 use Rattle.rules.specs.declared.Home.the-variants.{Unspilled, Spilled}
 use Rattle.rules.specs.declared.Piece.{Piece}
-use Rattle.rules.specs.declared.Place.{Place}
-use Rattle.rules.specs.declared.Place.the-variants.{Nowhere, Register, Slot}
+use Rattle.rules.specs.declared.Place.the-variants.{Nowhere, Slot}
 use Rattle.rules.specs.declared.Strategy.{Strategy}
 use Rattle.rules.specs.Tables.{Tables}
 use Rattle.rules.specs.Accepted.{InRange, Accepted}
-use Rattle.rules.specs.Uses.{mentionPoints, nextUse, lastUse}
+use Rattle.rules.specs.Uses.{nextUse, lastUse}
 use Rattle.rules.specs.State.{Given, State, Outcome, goes, stops, goOn, withPlace, pointsOf, enqueue}
 use Rattle.rules.specs.Slots.{spill}
-use Rattle.rules.specs.Split.{child, parent, stayingMentions, newRecord, splitPieces, split, splitAndQueue, splitIfAny, candidate, orFrom, pick, queueTail, splitAndSpillBy, splitAndSpill}
+use Rattle.rules.specs.Split.{child, parent, stayingMentions, newRecord, split, splitAndQueue, splitIfAny, candidate, orFrom, pick, queueTail, splitAndSpillBy, splitAndSpill}
 use Rattle.rules.proofs.Keeps.{splitState}
-use Rattle.theorems.specs.Invariant.{Good, at, firstPoint, lastPoint, Shape, Held, Inv, Cut, Clear, SpilledAt}
+use Rattle.theorems.specs.Invariant.{Good, at, firstPoint, lastPoint, Shape, Inv, Cut, Clear, SpilledAt}
+use Rattle.theorems.specs.Proper.{SpillOk, IfAnyOk, SpillTailOk, SpillByOk, SpillAtOk}
 use Rattle.theorems.proofs.RunLaws.{CutAt}
 use Rattle.theorems.proofs.UseLaws.{Least, Greatest, NextIs, LastIs, next-is, last-is}
 use Rattle.theorems.proofs.FragmentLaws.{within-true}
-use Rattle.theorems.proofs.PieceLaws.{placed, length-placed, at-placed, at-unplaced, length-split, at-old, at-parent, at-child}
-use Rattle.theorems.proofs.TableLaws.{PointsOf, at-points, has-first, has-last, Whose, whose, spans, cut-mentions}
+use Rattle.theorems.proofs.PieceLaws.{length-placed, at-placed, at-unplaced, length-split, at-old, at-parent, at-child}
+use Rattle.theorems.proofs.TableLaws.{at-points, has-first, has-last, Whose, whose, spans, cut-mentions}
 use Rattle.theorems.proofs.Changes.{Or, nowhere-slot, register-slot, inv-split, inv-enqueue, inv-leave, inv-settle}
-use Rattle.theorems.proofs.Slots.{SpillOf, inv-spill}
+use Rattle.theorems.proofs.Slots.{inv-spill}
 
 -- ---- outcomes
 pub good-on : (P Q : State → Type 0) (x : Outcome) (f : State → Outcome) → Good P x → ((t : State) → P t → Good Q (f t)) → Good Q (goOn x f)
@@ -124,7 +122,7 @@ module _ (g : Given) (ok : Accepted (g .tables)) (small : g .capacity ≤ 16384)
           homes = refl;
         }
 
-    module _ (y : ℕ) (n : Least p (pointsOf g (at (s .pieces) j)) y) (room : length (s .pieces) < g .capacity) where
+    module _ (y : ℕ) (n : Least p (pointsOf g (at (s .pieces) j)) y) where
       from : Whose T ok (at (s .pieces) j) sh y
       from = whose T ok (at (s .pieces) j) sh y (n .has)
 
@@ -149,9 +147,9 @@ module _ (g : Given) (ok : Accepted (g .tables)) (small : g .capacity ≤ 16384)
       proper : Cut g (at (s .pieces) j) y
       proper = record { above = omega (arith, over); below = lies .1; whole = λ m r k. absurd (omega (arith, first m r)) }
 
-      cut-some : TailCut l X s j p (enqueue (splitState g s j y) (length (s .pieces)))
+      cut-some : length (s .pieces) < g .capacity → TailCut l X s j p (enqueue (splitState g s j y) (length (s .pieces)))
       unfolding enqueue
-      cut-some =
+      cut-some room =
           let longer = length-split ms sp (s .pieces) j y in
           let par = at-parent ms sp (s .pieces) j y h in
           let chi = at-child ms sp (s .pieces) j y in
@@ -175,6 +173,13 @@ module _ (g : Given) (ok : Accepted (g .tables)) (small : g .capacity ≤ 16384)
         by : (f : Spot) → NextIs p (pointsOf g (at (s .pieces) j)) f → Good (TailCut l X s j p) (splitIfAny g s j f)
         by Nothing n = cut-none n
         by (Point y) n = good-queue g s j y (TailCut l X s j p) (cut-some y n)
+
+    pub cut-ok : IfAnyOk g s j (nextUse p (pointsOf g (at (s .pieces) j)))
+    cut-ok = by (nextUse p (pointsOf g (at (s .pieces) j))) (next-is p (pointsOf g (at (s .pieces) j)))
+      where
+        by : (f : Spot) → NextIs p (pointsOf g (at (s .pieces) j)) f → IfAnyOk g s j f
+        by Nothing n = tt
+        by (Point y) n = let c = proper y n in record { here = h; above = c .above; below = c .below }
 
   -- ---- and record j is spilled, before or after
   pub record Tailed (l : ℕ) (X : ℕ → Type 0) (s : State) (j : ℕ) (t : State) : Type 0 where
@@ -220,7 +225,22 @@ module _ (g : Given) (ok : Accepted (g .tables)) (small : g .capacity ≤ 16384)
         })
         (cut-tail l (Or X j) (spill g s j) j (r .0) (inr refl) (omega arith) (rw len unused) p b (rw here st) (rw here ab))
 
+    pub spill-tail-ok : SpillTailOk g s j p
+    spill-tail-ok =
+        let r = inv-spill g ok l (Or X j) s j i (inr refl) h n in
+        let o = r .1 in
+        let len : length (spill g s j .pieces) ≡ length (s .pieces) = ap length (o .pieces) ∙ length-placed (s .pieces) j (Slot (o .slot)) in
+        let here : at (spill g s j .pieces) j ≡ withPlace (Slot (o .slot)) (at (s .pieces) j) = ap (λ (ps : List Piece). at ps j) (o .pieces) ∙ at-placed (s .pieces) j (Slot (o .slot)) h in
+        (record { here = h; unspilled = n }, cut-ok l (Or X j) (spill g s j) j (r .0) (inr refl) (omega arith) (rw len unused) p b (rw here st) (rw here ab))
+
     -- cut first
+    pub tail-spill-ok : IfAnyOk g s j (nextUse p (pointsOf g (at (s .pieces) j))) × Good (λ t. SpillOk t j) (splitIfAny g s j (nextUse p (pointsOf g (at (s .pieces) j))))
+    tail-spill-ok = (
+      cut-ok l (Or X j) s j i (inr refl) h unused p b st ab,
+      good-imp (TailCut l (Or X j) s j p) (λ t. SpillOk t j) (splitIfAny g s j (nextUse p (pointsOf g (at (s .pieces) j)))) (λ t c. record { here = omega (arith, c .grows); unspilled = λ z e. n z (sym (c .samePlace) ∙ e) })
+          (cut-tail l (Or X j) s j i (inr refl) h unused p b st ab),
+    )
+
     pub tail-spill : Good (Tailed l X s j) (goOn (splitIfAny g s j (nextUse p (pointsOf g (at (s .pieces) j)))) (λ t. goes (spill g t j)))
     tail-spill =
         good-on (TailCut l (Or X j) s j p) (Tailed l X s j) (splitIfAny g s j (nextUse p (pointsOf g (at (s .pieces) j)))) (λ t. goes (spill g t j))
@@ -317,6 +337,13 @@ module _ (g : Given) (ok : Accepted (g .tables)) (small : g .capacity ≤ 16384)
           (spill-tail l X (splitState g s c d) (length (s .pieces)) (inv-split g ok l X s c d i h proper-d (inr clear-d) room) (omega arith) (rw longer (new (length (s .pieces) + 1) (omega arith)))
           (λ z o. nowhere-slot _ z refl (rw chi at o)) p b (rw chi e) (rw chi over-d))
 
+      spill-some-ok : length (s .pieces) < g .capacity → SpillTailOk g (splitState g s c d) (length (s .pieces)) p
+      spill-some-ok room =
+          let longer = length-split ms sp (s .pieces) c d in
+          let chi = at-child ms sp (s .pieces) c d in
+          spill-tail-ok l X (splitState g s c d) (length (s .pieces)) (inv-split g ok l X s c d i h proper-d (inr clear-d) room) (omega arith) (rw longer (new (length (s .pieces) + 1) (omega arith)))
+          (λ z o. nowhere-slot _ z refl (rw chi at o)) p b (rw chi e) (rw chi over-d)
+
     not-p : (u : ℕ) → Greatest p (pointsOf g (at (s .pieces) c)) u → u ≢ p
     not-p u k o =
         let w = whose T ok (at (s .pieces) c) shc u (k .has) in
@@ -338,3 +365,22 @@ module _ (g : Given) (ok : Accepted (g .tables)) (small : g .capacity ≤ 16384)
             (λ t. queueTail g (spill g t (newRecord s)) (newRecord s) p)
             (good-split g s c (pick (g .mode .strategy) (u + 1) p) (λ t. (t ≡ splitState g s c (pick (g .mode .strategy) (u + 1) p)) × (length (s .pieces) < g .capacity)) (λ r. (refl, r)))
             (λ t r. rw (r .0) (spill-some u k (pick (g .mode .strategy) (u + 1) p) (v .0) (v .1) (r .1))))
+
+    pub spill-ok : SpillAtOk g s c p
+    spill-ok = by (lastUse p (pointsOf g (at (s .pieces) c))) (last-is p (pointsOf g (at (s .pieces) c)))
+      where
+        by : (f : Spot) → LastIs p (pointsOf g (at (s .pieces) c)) f → SpillByOk g s c p f
+        by Nothing k = spill-tail-ok l X s c (inv-leave g ok l X s c i q) h (new _ (omega arith)) n p b lo (λ m r. k _ (has-first T ok (at (s .pieces) c) shc m r))
+        by (Point u) k =
+            let o : u ≢ p = not-p u k in
+            let m : min (u + 1) p ≡ u + 1 = omega (arith, k .upto) in
+            let v = pick-within (g .mode .strategy) (u + 1) p (omega (arith, k .upto)) in
+            let w = proper-d u k (pick (g .mode .strategy) (u + 1) p) (v .0) (v .1) in
+            rw m (
+              record { here = h; above = w .above; below = w .below },
+              good-split g s c (pick (g .mode .strategy) (u + 1) p) (λ t. SpillTailOk g t (newRecord s) p) (spill-some-ok u k (pick (g .mode .strategy) (u + 1) p) (v .0) (v .1)),
+            )
+
+    -- what it leaves, and that it is proper
+    pub spill-both : Good (SpilledAt g l X s c p) (splitAndSpill g s c p) × SpillAtOk g s c p
+    spill-both = (spill-spec, spill-ok)

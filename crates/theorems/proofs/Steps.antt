@@ -1,19 +1,17 @@
 -- Steps 1 to 4 for a popped record, and the whole step.
 -- Assumes accepted tables.
-use Prim.Native.Nat.{ℕ, _+_, _-_, _*_, _%_, _≤_, _<_}
+use Prim.Native.Nat.{ℕ, _+_, _%_, _≤_, _<_}
 use mathlib.Core.Path.{_≡_, refl, sym, ap, _∙_}
 use mathlib.Core.Logic.{_≢_, _⊎_, inl, inr, ⊎-elim}
 use mathlib.Core.Bool.{Bool, true, false, _&&_, _||_}
-use mathlib.Core.List.{List, [], _∷_, List·Memᴰ}
+use mathlib.Core.List.{List, List·Memᴰ}
 use native.Mathlib.Omega.{arith}
 use native.Mathlib.Decide.{ℕ-discrete, decLt}
-use borrow.Author.Tests.{eqb-true, eqb-false, ltb-true, ltb-false, leb-true}
+use borrow.Author.Tests.{eqb-false, ltb-true, leb-true}
 use lib.Dec.{eqb, ltb, leb}
-use lib.ListN.{length, getD}
+use lib.ListN.{length}
 use Rattle.words.specs.Choose.{choose}
-use Rattle.words.specs.Points.{usePoint, defPoint}
-use Rattle.words.specs.Packed.{part, registerAt, intervalCount}
-use Rattle.words.specs.declared.Class.{Class}
+use Rattle.words.specs.Packed.{part}
 use Rattle.words.specs.declared.Spot.{Spot}
 use Rattle.words.specs.declared.Spot.the-variants.{Nothing, Point}
 use Rattle.rules.specs.declared.Answer.the-variants.{NoRegister, OutOfRegisters, FixedClash}
@@ -27,24 +25,25 @@ use Rattle.rules.specs.declared.Place.the-variants.{Nowhere, Register, Slot}
 use Rattle.rules.specs.declared.Pos.{Pos}
 use Rattle.rules.specs.declared.Pos.the-variants.{Blocked, At, Never}
 use Rattle.rules.specs.Tables.{Tables}
-use Rattle.rules.specs.Accepted.{InRange, interval, Accepted}
+use Rattle.rules.specs.Accepted.{InRange, Accepted}
 use Rattle.rules.specs.Positions.{below, lowerOf}
 use Rattle.rules.specs.Uses.{isPoint, nextUse, lastUse}
-use Rattle.rules.specs.State.{Given, State, Outcome, goes, stops, goOn, withPlace, withActive, piece, put, pointsOf, intervalOf, classOf, fragmentsOf, enqueue}
+use Rattle.rules.specs.State.{Given, State, goes, stops, goOn, withPlace, piece, put, pointsOf, classOf, fragmentsOf, enqueue}
 use Rattle.rules.specs.Slots.{spill}
-use Rattle.rules.specs.Split.{parent, splitPieces, splitAndQueue, splitIfAny, splitAndSpill, partialSplit}
-use Rattle.rules.specs.Steps.{keep, inRegister, dropEnded, fixedActive, firstStart, holderIn, holder, isHeld, freeUntil, furthestOf, takeRegister, posOfUse, nextUseOf, nextUsePos, spillUntil, cutAt, cutBefore, spillHolder, takeOver, weigh, onlyScratch, blockedBy, allocateBlocked, takeUntil, tryAt, tryTake, allocate, handleSafepoints, step}
+use Rattle.rules.specs.Split.{splitAndQueue, splitIfAny, splitAndSpill, partialSplit}
+use Rattle.rules.specs.Steps.{inRegister, dropEnded, fixedActive, firstStart, holder, isHeld, freeUntil, furthestOf, takeRegister, posOfUse, nextUseOf, nextUsePos, spillUntil, cutAt, cutBefore, spillHolder, takeOver, weigh, onlyScratch, blockedBy, allocateBlocked, takeUntil, tryAt, tryTake, allocate, handleSafepoints, step}
 use Rattle.rules.proofs.Keeps.{splitState}
-use Rattle.theorems.specs.Invariant.{Good, NoOne, at, In, firstPoint, lastPoint, Shape, Usable, Unfixed, Held, Inv, Cut, Clear, SpilledAt}
+use Rattle.theorems.specs.Invariant.{Good, NoOne, at, firstPoint, lastPoint, Shape, Usable, Unfixed, Inv, Cut, Clear, SpilledAt}
+use Rattle.theorems.specs.Proper.{SpillOk, IfAnyOk, SpillAtOk, UntilOk, CutAtOk, CutOk, HolderOk, TakeOverOk, WeighOk, BlockedByOk, BlockedOk, TakeUntilOk, TryAtOk, TryTakeOk, AllocateOk, SafepointOk, StepOk}
 use Rattle.theorems.proofs.ListLaws.{mem-last, keep-passes}
-use Rattle.theorems.proofs.UseLaws.{or-false, Least, Greatest, NextIs, LastIs, next-is, last-is, not-point}
+use Rattle.theorems.proofs.UseLaws.{Least, NextIs, LastIs, next-is, last-is, not-point}
 use Rattle.theorems.proofs.PieceLaws.{placed, length-placed, at-placed, at-unplaced, length-split, at-old, at-parent, at-child}
-use Rattle.theorems.proofs.TableLaws.{at-points, has-first, has-last, Whose, whose, spans}
-use Rattle.theorems.proofs.FragmentLaws.{in-table, unfixed-never, unfixed-at, StartIs, start-is}
+use Rattle.theorems.proofs.TableLaws.{at-points, has-first, has-last, whose, spans}
+use Rattle.theorems.proofs.FragmentLaws.{in-table, unfixed-never, unfixed-at}
 use Rattle.theorems.proofs.ChoiceLaws.{and-true, at-past, Chosen, ChoiceIs, furthest-is, HolderIs, holder-is, lower-above, partial-is}
-use Rattle.theorems.proofs.Changes.{Or, nowhere-register, nowhere-slot, register-slot, inv-split, inv-enqueue, inv-take, inv-drop}
-use Rattle.theorems.proofs.Spill.{good-on, good-imp, good-if, good-queue, Above, Tailed, tail-spill, spill-spec}
-use Rattle.theorems.proofs.Safepoints.{But, Taken, safepoint-keeps}
+use Rattle.theorems.proofs.Changes.{nowhere-register, nowhere-slot, register-slot, inv-split, inv-enqueue, inv-take, inv-drop}
+use Rattle.theorems.proofs.Spill.{good-on, good-imp, good-if, good-queue, Above, Tailed, tail-spill, tail-spill-ok, spill-both}
+use Rattle.theorems.proofs.Safepoints.{But, Taken, safepoint-keeps, safepoint-ok}
 
 -- a record in a register is a record
 pub registered : (ps : List Piece) (j : ℕ) → inRegister (at ps j .place) ≡ true → j < length ps
@@ -157,6 +156,16 @@ module _ (g : Given) (ok : Accepted (g .tables)) (small : g .capacity ≤ 16384)
   not-register w r (inl z) e = register-slot w r (z .0) e (z .1)
   not-register w r (inr z) e = nowhere-register w r z e
 
+  -- the choice among the registers of a piece's class
+  abbrev ClassChoice : (ℕ → Pos) → Piece → Choice → Type 0
+  ClassChoice pos q c = ChoiceIs pos (classOf g q .scratch) (classOf g q .first) (classOf g q .first + classOf g q .count) c
+
+  chosen : (pos : ℕ → Pos) (q : Piece) → ClassChoice pos q (furthestOf (classOf g q) pos)
+  chosen pos q = furthest-is pos (classOf g q .scratch) (classOf g q .first) (classOf g q .first + classOf g q .count) (classOf g q .first) (classOf g q .count) AllBlocked (omega arith) (omega arith) tt
+
+  usable : {pos : ℕ → Pos} (q : Piece) (r : ℕ) (p : Pos) → Chosen pos (classOf g q .scratch) (classOf g q .first) (classOf g q .first + classOf g q .count) r p → Usable T (q .interval) r
+  usable {pos} q r p o = record { from = o .from; below = o .below; notScratch = o .notScratch }
+
   module _ (S k : ℕ) (s : State) (d : Popped S k s) where
     sh : Shape T (at (s .pieces) k)
     sh = d .inv .core .shape k (d .here)
@@ -164,12 +173,19 @@ module _ (g : Given) (ok : Accepted (g .tables)) (small : g .capacity ≤ 16384)
     start-S : at (s .pieces) k .start ≡ S
     start-S = d .begins
 
+    noslot : (t : ℕ) → at (s .pieces) k .place ≢ Slot t
+    noslot t e = nowhere-slot (at (s .pieces) k .place) t (d .free) e
+
     -- step 4, "no mention: spill whole", and "split at first use, queue the child, spill the piece"
     own-tail : Above g ok small (at (s .pieces) k) (at (s .pieces) k .start) → Good (Placed S k) (goOn (splitIfAny g s k (nextUse (at (s .pieces) k .start) (pointsOf g (at (s .pieces) k)))) (λ t. goes (spill g t k)))
     own-tail ab =
         good-imp (Tailed g ok small S NoOne s k) (Placed S k) (goOn (splitIfAny g s k (nextUse (at (s .pieces) k .start) (pointsOf g (at (s .pieces) k)))) (λ t. goes (spill g t k)))
         (λ t c. inl (c .inv, (c .slot, c .spilt)))
-        (tail-spill g ok small S NoOne s k (d .inv) (d .here) (λ o. o) (λ t e. nowhere-slot (at (s .pieces) k .place) t (d .free) e) (at (s .pieces) k .start) (omega (arith, d .begins)) (omega arith) ab)
+        (tail-spill g ok small S NoOne s k (d .inv) (d .here) (λ o. o) noslot (at (s .pieces) k .start) (omega (arith, d .begins)) (omega arith) ab)
+
+    own-ok : Above g ok small (at (s .pieces) k) (at (s .pieces) k .start)
+        → IfAnyOk g s k (nextUse (at (s .pieces) k .start) (pointsOf g (at (s .pieces) k))) × Good (λ t. SpillOk t k) (splitIfAny g s k (nextUse (at (s .pieces) k .start) (pointsOf g (at (s .pieces) k))))
+    own-ok ab = tail-spill-ok g ok small S NoOne s k (d .inv) (d .here) (λ o. o) noslot (at (s .pieces) k .start) (omega (arith, d .begins)) (omega arith) ab
 
     -- what holds a register that may be taken: B4, B6
     holder-free : (r : ℕ) → holder s r ≡ h.Free → (m : ℕ) → m < length (s .pieces) → m ≢ k → at (s .pieces) m .place ≡ Register r → at (s .pieces) m .end < S
@@ -271,6 +287,22 @@ module _ (g : Given) (ok : Accepted (g .tables)) (small : g .capacity ≤ 16384)
             fresh = λ m a b. rw (take-others t k r m (λ o. omega (arith, d .here))) (not-register (at (t .pieces) m .place) r (c .fresh m a (omega arith)));
           }
 
+      -- step 4, "else split-and-spill at b", where b is no mention point
+      clear-b : (b : ℕ) → isPoint b (pointsOf g (piece (takeRegister s k r) k)) ≡ false → Clear g (at (s .pieces) k) b
+      clear-b b x m a =
+          let n = not-point b (pointsOf g (at (s .pieces) k)) (rw took at x) in
+          (λ v. n (rw v at (has-first T ok (at (s .pieces) k) sh m a)), λ v. n (rw v at (has-last T ok (at (s .pieces) k) sh m a)))
+
+      spill-b : (b : ℕ) → firstStart (at (s .pieces) k .start) (at (s .pieces) k .end) (fragmentsOf g r) ≡ At b → isPoint b (pointsOf g (piece (takeRegister s k r) k)) ≡ false
+          → Good (SpilledAt g S (But k) (takeRegister s k r) k b) (splitAndSpill g (takeRegister s k r) k b) × SpillAtOk g (takeRegister s k r) k b
+      spill-b b e x =
+          let u = until b e in
+          spill-both g ok small S (But k) (takeRegister s k r) k took-inv (omega (arith, took-length, d .here)) new (λ t v. register-slot (at (takeRegister s k r .pieces) k .place) r t (rw took refl) v) (inl (inr refl))
+          b (omega (arith, d .begins, u .0)) (rw took (omega (arith, u .0))) (rw took (u .1)) (rw took (clear-b b x))
+        where
+          new : (m : ℕ) → length (takeRegister s k r .pieces) ≤ m → But k m → ⊥
+          new m a (inr v) = omega (arith, took-length, d .here)
+
       -- step 4, "if its first fragment start in S..end is b": f, the first use, is below b
       cut-keeps : (f : ℕ) → Least (at (s .pieces) k .start) (pointsOf g (at (s .pieces) k)) f
           → (y : Pos) → firstStart (at (s .pieces) k .start) (at (s .pieces) k .end) (fragmentsOf g r) ≡ y → below (At f) y ≡ true → Good (Ready S k r s) (cutBefore g (takeRegister s k r) k y)
@@ -281,32 +313,28 @@ module _ (g : Given) (ok : Accepted (g .tables)) (small : g .capacity ≤ 16384)
           good-if (Ready S k r s) (isPoint b (pointsOf g (piece (takeRegister s k r) k))) (stops (FixedClash k)) (cutAt g (takeRegister s k r) k b (partialSplit g (piece (takeRegister s k r) k) b))
           (λ x. tt) (λ x. at-b (partialSplit g (piece (takeRegister s k r) k) b) refl x)
         where
-          fb : f < b
-          fb = ltb-true f b l
-
-          w : Whose T ok (at (s .pieces) k) sh f
-          w = whose T ok (at (s .pieces) k) sh f (o .has)
-
-          clear-b : isPoint b (pointsOf g (piece (takeRegister s k r) k)) ≡ false → Clear g (at (s .pieces) k) b
-          clear-b x m a =
-              let n = not-point b (pointsOf g (at (s .pieces) k)) (rw took at x) in
-              (λ v. n (rw v at (has-first T ok (at (s .pieces) k) sh m a)), λ v. n (rw v at (has-last T ok (at (s .pieces) k) sh m a)))
-
           at-b : (z : Spot) → partialSplit g (piece (takeRegister s k r) k) b ≡ z → isPoint b (pointsOf g (piece (takeRegister s k r) k)) ≡ false → Good (Ready S k r s) (cutAt g (takeRegister s k r) k b z)
           at-b Nothing q x =
-              let u = until b e in
+              let w = whose T ok (at (s .pieces) k) sh f (o .has) in
               good-imp (SpilledAt g S (But k) (takeRegister s k r) k b) (Ready S k r s) (splitAndSpill g (takeRegister s k r) k b)
-              (λ t c. ready-cut b b (omega arith) (u .2) t c (c .stays (w .who) (rw took (w .inside)) (omega (arith, fb, spans T ok (at (s .pieces) k) sh f w .2))))
-              (spill-spec g ok small S (But k) (takeRegister s k r) k took-inv (omega (arith, took-length, d .here)) new (λ t v. register-slot (at (takeRegister s k r .pieces) k .place) r t (rw took refl) v) (inl (inr refl))
-              b (omega (arith, d .begins, u .0)) (rw took (omega (arith, u .0))) (rw took (u .1)) (rw took (clear-b x)))
-            where
-              new : (m : ℕ) → length (takeRegister s k r .pieces) ≤ m → But k m → ⊥
-              new m a (inr v) = omega (arith, took-length, d .here)
+              (λ t c. ready-cut b b (omega arith) (until b e .2) t c (c .stays (w .who) (rw took (w .inside)) (omega (arith, ltb-true f b l, spans T ok (at (s .pieces) k) sh f w .2))))
+              (spill-b b e x .0)
           at-b (Point p) q x =
               let u = until b e in
               let v = part-spec (at (s .pieces) k) b p sh (rw took at q) in
               good-imp (CutOff S k p (takeRegister s k r)) (Ready S k r s) (splitAndQueue g (takeRegister s k r) k p) (λ t c. ready-cut p b (omega (arith, v .1)) (u .2) t (c .0) (c .1))
               (use-cut S k p (takeRegister s k r) took-inv (omega (arith, took-length, d .here)) (rw took (omega (arith, d .begins))) (rw took (v .0)) (rw took (omega (arith, v .1, u .1))) (v .2))
+
+      cut-ok : (y : Pos) → firstStart (at (s .pieces) k .start) (at (s .pieces) k .end) (fragmentsOf g r) ≡ y → CutOk g (takeRegister s k r) k y
+      cut-ok Blocked e = tt
+      cut-ok Never e = tt
+      cut-ok (At b) e = λ x. at-b (partialSplit g (piece (takeRegister s k r) k) b) refl x
+        where
+          at-b : (z : Spot) → partialSplit g (piece (takeRegister s k r) k) b ≡ z → isPoint b (pointsOf g (piece (takeRegister s k r) k)) ≡ false → CutAtOk g (takeRegister s k r) k b z
+          at-b Nothing q x = spill-b b e x .1
+          at-b (Point p) q x =
+              let v = part-spec (at (s .pieces) k) b p sh (rw took at q) in
+              record { here = omega (arith, took-length, d .here); above = rw took (v .0); below = rw took (omega (arith, v .1, until b e .1)) }
 
       -- r is free: no active record holds it
       ready-free : holder s r ≡ h.Free → (t : State) → Ready S k r s t → Taken g ok small S k r t
@@ -363,15 +391,11 @@ module _ (g : Given) (ok : Accepted (g .tables)) (small : g .capacity ≤ 16384)
           go m a n p (no l) (no e) = absurd (not-register (at (u .pieces) m .place) r (c .fresh m (omega arith) a) p)
 
       -- step 4, "then split-and-spill at S the active piece that held it": its next use is above f, so S is no mention point of it
-      steal-keeps : (f : ℕ) → at (s .pieces) k .start ≤ f → (x : Holder) → holder s r ≡ x → below (At f) (nextUseOf g s (at (s .pieces) k .start) x) ≡ true
-          → (t : State) → Ready S k r s t → Good (Placed S k) (spillHolder g t (at (s .pieces) k .start) x)
-      unfolding spillHolder
-      steal-keeps f lo h.Free e b t y = inr (r, ready-free e t y)
-      steal-keeps f lo (h.Held j) e b t y =
-          rw start-S
-          (good-imp (SpilledAt g S (But k) t j S) (Placed S k) (splitAndSpill g t j S) (λ u c. inr (r, ready-stolen j o t y u c))
-          (spill-spec g ok small S (But k) t j (y .inv) (omega (arith, o .here, y .grows)) new (λ z p. register-slot (at (t .pieces) j .place) r z (rw same (o .place)) p) (inr (λ p. nowhere-register (at (t .pieces) j .place) r p (rw same (o .place))))
-          S (omega arith) (rw same (o .begun)) (rw same (o .lasts)) (rw same (clear (nextUse S (pointsOf g (at (s .pieces) j))) (next-is S (pointsOf g (at (s .pieces) j))) (rw start-S at b)))))
+      spill-h : (f : ℕ) → at (s .pieces) k .start ≤ f → (j : ℕ) → holder s r ≡ h.Held j → below (At f) (nextUseOf g s (at (s .pieces) k .start) (h.Held j)) ≡ true → (t : State) → Ready S k r s t
+          → Good (SpilledAt g S (But k) t j S) (splitAndSpill g t j S) × SpillAtOk g t j S
+      spill-h f lo j e b t y =
+          spill-both g ok small S (But k) t j (y .inv) (omega (arith, o .here, y .grows)) new (λ z p. register-slot (at (t .pieces) j .place) r z (rw same (o .place)) p) (inr (λ p. nowhere-register (at (t .pieces) j .place) r p (rw same (o .place))))
+          S (omega arith) (rw same (o .begun)) (rw same (o .lasts)) (rw same (clear (nextUse S (pointsOf g (at (s .pieces) j))) (next-is S (pointsOf g (at (s .pieces) j))) (rw start-S at b)))
         where
           o : Holds r j
           o = holder-held r j e
@@ -391,6 +415,16 @@ module _ (g : Given) (ok : Accepted (g .tables)) (small : g .capacity ≤ 16384)
               let l : f < z = ltb-true f z p in
               (λ v. omega (arith, start-S, n .least _ (has-first T ok (at (s .pieces) j) sj m a) (omega arith)), λ v. omega (arith, start-S, n .least _ (has-last T ok (at (s .pieces) j) sj m a) (omega arith)))
 
+      steal-keeps : (f : ℕ) → at (s .pieces) k .start ≤ f → (x : Holder) → holder s r ≡ x → below (At f) (nextUseOf g s (at (s .pieces) k .start) x) ≡ true
+          → (t : State) → Ready S k r s t → Good (Placed S k) (spillHolder g t (at (s .pieces) k .start) x)
+      unfolding spillHolder
+      steal-keeps f lo h.Free e b t y = inr (r, ready-free e t y)
+      steal-keeps f lo (h.Held j) e b t y = rw start-S (good-imp (SpilledAt g S (But k) t j S) (Placed S k) (splitAndSpill g t j S) (λ u c. inr (r, ready-stolen j (holder-held r j e) t y u c)) (spill-h f lo j e b t y .0))
+
+      steal-ok : (f : ℕ) → at (s .pieces) k .start ≤ f → (x : Holder) → holder s r ≡ x → below (At f) (nextUseOf g s (at (s .pieces) k .start) x) ≡ true → (t : State) → Ready S k r s t → HolderOk g t (at (s .pieces) k .start) x
+      steal-ok f lo h.Free e b t y = tt
+      steal-ok f lo (h.Held j) e b t y = rw start-S (spill-h f lo j e b t y .1)
+
       take-over : (f : ℕ) → Least (at (s .pieces) k .start) (pointsOf g (at (s .pieces) k)) f → below (At f) (nextUseOf g s (at (s .pieces) k .start) (holder s r)) ≡ true
           → below (At f) (firstStart (at (s .pieces) k .start) (at (s .pieces) k .end) (fragmentsOf g r)) ≡ true → Good (Placed S k) (takeOver g s k r)
       unfolding takeOver
@@ -399,87 +433,134 @@ module _ (g : Given) (ok : Accepted (g .tables)) (small : g .capacity ≤ 16384)
           (cut-keeps f o (firstStart (at (s .pieces) k .start) (at (s .pieces) k .end) (fragmentsOf g r)) refl b)
           (steal-keeps f (o .from) (holder s r) refl a)
 
+      take-over-ok : (f : ℕ) → Least (at (s .pieces) k .start) (pointsOf g (at (s .pieces) k)) f → below (At f) (nextUseOf g s (at (s .pieces) k .start) (holder s r)) ≡ true
+          → below (At f) (firstStart (at (s .pieces) k .start) (at (s .pieces) k .end) (fragmentsOf g r)) ≡ true → TakeOverOk g s k r
+      take-over-ok f o a b = (
+        cut-ok (firstStart (at (s .pieces) k .start) (at (s .pieces) k .end) (fragmentsOf g r)) refl,
+        good-imp (Ready S k r s) (λ t. HolderOk g t (at (s .pieces) k .start) (holder s r)) (cutBefore g (takeRegister s k r) k (firstStart (at (s .pieces) k .start) (at (s .pieces) k .end) (fragmentsOf g r)))
+            (steal-ok f (o .from) (holder s r) refl a) (cut-keeps f o (firstStart (at (s .pieces) k .start) (at (s .pieces) k .end) (fragmentsOf g r)) refl b),
+      )
+
     -- ---- step 4
     module _ (f : ℕ) (e : nextUse (at (s .pieces) k .start) (pointsOf g (at (s .pieces) k)) ≡ Point f) where
       uses : Least (at (s .pieces) k .start) (pointsOf g (at (s .pieces) k)) f
       uses = rw e at (next-is (at (s .pieces) k .start) (pointsOf g (at (s .pieces) k)))
 
+      late : f ≢ at (s .pieces) k .start → Above g ok small (at (s .pieces) k) (at (s .pieces) k .start)
+      late n m a = let u = uses in omega (arith, u .from, u .least _ (has-first T ok (at (s .pieces) k) sh m a) (sh .ments .starts m (a .0) (a .1)))
+
       own-keeps : Good (Placed S k) (spillUntil g s k f)
       unfolding spillUntil splitIfAny
       own-keeps =
           good-if (Placed S k) (eqb f (piece s k .start)) (stops (OutOfRegisters k)) (goOn (splitAndQueue g s k f) (λ t. goes (spill g t k)))
-          (λ x. tt)
-          (λ x. let n : f ≢ at (s .pieces) k .start = eqb-false f (at (s .pieces) k .start) x in
-          rw e at (own-tail (λ m a. let u = uses in omega (arith, u .from, u .least _ (has-first T ok (at (s .pieces) k) sh m a) (sh .ments .starts m (a .0) (a .1))))))
+          (λ x. tt) (λ x. rw e at (own-tail (late (eqb-false f (at (s .pieces) k .start) x))))
 
-      weigh-keeps : (c : Choice) → ChoiceIs (nextUsePos g s (at (s .pieces) k)) (classOf g (at (s .pieces) k) .scratch) (classOf g (at (s .pieces) k) .first) (classOf g (at (s .pieces) k) .first + classOf g (at (s .pieces) k) .count) c
-          → Good (Placed S k) (weigh g s k f c)
-      unfolding weigh nextUsePos
+      until-ok : UntilOk g s k f
+      unfolding splitIfAny
+      until-ok n = rw e at (own-ok (late n))
+
+      -- what a register above f is: not fixed-active, its holder's next use and its first fragment above f
+      reach : (r : ℕ) (p : Pos) → p ≡ nextUsePos g s (at (s .pieces) k) r → below (At f) p ≡ true
+          → (fixedActive (at (s .pieces) k .start) (fragmentsOf g r) ≡ false) × (below (At f) (nextUseOf g s (at (s .pieces) k .start) (holder s r)) ≡ true) × (below (At f) (firstStart (at (s .pieces) k .start) (at (s .pieces) k .end) (fragmentsOf g r)) ≡ true)
+      unfolding nextUsePos
+      reach r p o b = by (fixedActive (at (s .pieces) k .start) (fragmentsOf g r)) refl (sym (ap (below (At f)) o) ∙ b)
+        where
+          by : (x : Bool) → fixedActive (at (s .pieces) k .start) (fragmentsOf g r) ≡ x
+              → below (At f) (choose x Blocked (lowerOf (nextUseOf g s (at (s .pieces) k .start) (holder s r)) (firstStart (at (s .pieces) k .start) (at (s .pieces) k .end) (fragmentsOf g r)))) ≡ true
+              → (fixedActive (at (s .pieces) k .start) (fragmentsOf g r) ≡ false) × (below (At f) (nextUseOf g s (at (s .pieces) k .start) (holder s r)) ≡ true) × (below (At f) (firstStart (at (s .pieces) k .start) (at (s .pieces) k .end) (fragmentsOf g r)) ≡ true)
+          by true v w = let z : _≡_ {A = ℕ} 0 1 = cc in absurd (omega arith)
+          by false v w = let y = lower-above f (nextUseOf g s (at (s .pieces) k .start) (holder s r)) (firstStart (at (s .pieces) k .start) (at (s .pieces) k .end) (fragmentsOf g r)) w in (v, y .0, y .1)
+
+      weigh-keeps : (c : Choice) → ClassChoice (nextUsePos g s (at (s .pieces) k)) (at (s .pieces) k) c → Good (Placed S k) (weigh g s k f c)
+      unfolding weigh
       weigh-keeps AllBlocked o = own-keeps
       weigh-keeps (Take r p) o =
           good-if (Placed S k) (below (At f) p) (takeOver g s k r) (spillUntil g s k f)
-          (λ b. by (fixedActive (at (s .pieces) k .start) (fragmentsOf g r)) refl (sym (ap (below (At f)) (o .is)) ∙ b))
+          (λ b. let y = reach r p (o .is) b in take-over r (usable (at (s .pieces) k) r p o) (y .0) f uses (y .1) (y .2))
           (λ b. own-keeps)
-        where
-          by : (x : Bool) → fixedActive (at (s .pieces) k .start) (fragmentsOf g r) ≡ x
-              → below (At f) (choose x Blocked (lowerOf (nextUseOf g s (at (s .pieces) k .start) (holder s r)) (firstStart (at (s .pieces) k .start) (at (s .pieces) k .end) (fragmentsOf g r)))) ≡ true → Good (Placed S k) (takeOver g s k r)
-          by true v w = let z : _≡_ {A = ℕ} 0 1 = cc in absurd (omega arith)
-          by false v w =
-              let y = lower-above f (nextUseOf g s (at (s .pieces) k .start) (holder s r)) (firstStart (at (s .pieces) k .start) (at (s .pieces) k .end) (fragmentsOf g r)) w in
-              take-over r (record { from = o .from; below = o .below; notScratch = o .notScratch }) v f uses (y .0) (y .1)
+
+      weigh-ok : (c : Choice) → ClassChoice (nextUsePos g s (at (s .pieces) k)) (at (s .pieces) k) c → WeighOk g s k f c
+      weigh-ok AllBlocked o = until-ok
+      weigh-ok (Take r p) o = (λ b. let y = reach r p (o .is) b in take-over-ok r (usable (at (s .pieces) k) r p o) (y .0) f uses (y .1) (y .2), λ b. until-ok)
+
+    -- no next use: all mentions lie above S, since there is none
+    no-use : nextUse (at (s .pieces) k .start) (pointsOf g (at (s .pieces) k)) ≡ Nothing → Above g ok small (at (s .pieces) k) (at (s .pieces) k .start)
+    no-use e m a = let n : NextIs (at (s .pieces) k .start) (pointsOf g (at (s .pieces) k)) Nothing = rw e at (next-is (at (s .pieces) k .start) (pointsOf g (at (s .pieces) k))) in absurd (omega (arith, n _ (has-first T ok (at (s .pieces) k) sh m a), sh .ments .starts m (a .0) (a .1)))
 
     blocked-keeps : Good (Placed S k) (allocateBlocked g s k)
     unfolding allocateBlocked blockedBy splitIfAny
     blocked-keeps = by (nextUse (at (s .pieces) k .start) (pointsOf g (at (s .pieces) k))) refl
       where
         by : (x : Spot) → nextUse (at (s .pieces) k .start) (pointsOf g (at (s .pieces) k)) ≡ x → Good (Placed S k) (blockedBy g s k x)
-        by Nothing e = rw e at (own-tail (λ m a. let n : NextIs (at (s .pieces) k .start) (pointsOf g (at (s .pieces) k)) Nothing = rw e at (next-is (at (s .pieces) k .start) (pointsOf g (at (s .pieces) k))) in absurd (omega (arith, n _ (has-first T ok (at (s .pieces) k) sh m a), sh .ments .starts m (a .0) (a .1)))))
+        by Nothing e = rw e at (own-tail (no-use e))
         by (Point f) e =
             good-if (Placed S k) (onlyScratch (classOf g (piece s k))) (stops (NoRegister k)) (weigh g s k f (furthestOf (classOf g (piece s k)) (nextUsePos g s (piece s k))))
-            (λ x. tt)
-            (λ x. weigh-keeps f e (furthestOf (classOf g (piece s k)) (nextUsePos g s (piece s k)))
-            (furthest-is (nextUsePos g s (at (s .pieces) k)) (classOf g (at (s .pieces) k) .scratch) (classOf g (at (s .pieces) k) .first) (classOf g (at (s .pieces) k) .first + classOf g (at (s .pieces) k) .count) (classOf g (at (s .pieces) k) .first) (classOf g (at (s .pieces) k) .count) AllBlocked (omega arith) (omega arith) tt))
+            (λ x. tt) (λ x. weigh-keeps f e (furthestOf (classOf g (piece s k)) (nextUsePos g s (piece s k))) (chosen (nextUsePos g s (at (s .pieces) k)) (at (s .pieces) k)))
+
+    blocked-ok : BlockedOk g s k
+    blocked-ok = by (nextUse (at (s .pieces) k .start) (pointsOf g (at (s .pieces) k))) refl
+      where
+        by : (x : Spot) → nextUse (at (s .pieces) k .start) (pointsOf g (at (s .pieces) k)) ≡ x → BlockedByOk g s k x
+        by Nothing e = record { here = d .here; unspilled = noslot }
+        by (Point f) e = λ x. weigh-ok f e (furthestOf (classOf g (piece s k)) (nextUsePos g s (piece s k))) (chosen (nextUsePos g s (at (s .pieces) k)) (at (s .pieces) k))
 
     -- ---- steps 2 and 3
-    take-keeps : (r : ℕ) → Usable T (at (s .pieces) k .interval) r → (p : Pos) → freeUntil g s (at (s .pieces) k) r ≡ p → p ≢ Blocked → Good (Placed S k) (tryAt g s k r p)
-    unfolding tryAt takeUntil freeUntil
-    take-keeps r us p e n = by (holder s r) refl (fixedActive (at (s .pieces) k .start) (fragmentsOf g r)) refl e
+    -- a register that is not blocked has no active record and no fragment at S
+    open-until : (r : ℕ) (p : Pos) → freeUntil g s (at (s .pieces) k) r ≡ p → p ≢ Blocked
+        → (holder s r ≡ h.Free) × (fixedActive (at (s .pieces) k .start) (fragmentsOf g r) ≡ false) × (firstStart (at (s .pieces) k .start) (at (s .pieces) k .end) (fragmentsOf g r) ≡ p)
+    unfolding freeUntil
+    open-until r p e n = by (holder s r) refl (fixedActive (at (s .pieces) k .start) (fragmentsOf g r)) refl e
       where
-        blocked : {A : Type 0} → Blocked ≡ p → A
-        blocked v = absurd (n (sym v))
-
-        at-a : (off : fixedActive (at (s .pieces) k .start) (fragmentsOf g r) ≡ false) → holder s r ≡ h.Free → (y : Pos) → firstStart (at (s .pieces) k .start) (at (s .pieces) k .end) (fragmentsOf g r) ≡ y → y ≢ Blocked → Good (Placed S k) (tryAt g s k r y)
-        at-a off fr Blocked v w = absurd (w refl)
-        at-a off fr Never v w = inr (r, ready-free r us off fr (takeRegister s k r) (ready-whole r us off (never r us off v)))
-        at-a off fr (At a) v w =
-            good-if (Placed S k) (ltb (piece s k .end) a) (goes (takeRegister s k r)) (takeUntil g s k r (partialSplit g (piece s k) a))
-            (λ x. let u = until r us off a v in absurd (omega (arith, u .1, ltb-true (at (s .pieces) k .end) a x)))
-            (λ x. part (partialSplit g (piece s k) a) refl)
-          where
-            part : (z : Spot) → partialSplit g (piece s k) a ≡ z → Good (Placed S k) (takeUntil g s k r z)
-            part Nothing q = blocked-keeps
-            part (Point x) q =
-                let u = until r us off a v in
-                let o = part-spec (at (s .pieces) k) a x sh q in
-                good-on (CutOff S k x s) (Placed S k) (splitAndQueue g s k x) (λ t. goes (takeRegister t k r))
-                (use-cut S k x s (d .inv) (d .here) (omega (arith, d .begins)) (o .0) (omega (arith, o .1, u .1)) (o .2))
-                (λ t c. inr (r, ready-free r us off fr (takeRegister t k r) (ready-late r us off x a (omega (arith, o .1)) (u .2) t c)))
-
         by : (x : Holder) → holder s r ≡ x → (y : Bool) → fixedActive (at (s .pieces) k .start) (fragmentsOf g r) ≡ y
-            → choose (isHeld x || y) Blocked (firstStart (at (s .pieces) k .start) (at (s .pieces) k .end) (fragmentsOf g r)) ≡ p → Good (Placed S k) (tryAt g s k r p)
-        by (h.Held j) hx y hy v = blocked v
-        by h.Free hx true hy v = blocked v
-        by h.Free hx false hy v = at-a hy hx p v n
+            → choose (isHeld x || y) Blocked (firstStart (at (s .pieces) k .start) (at (s .pieces) k .end) (fragmentsOf g r)) ≡ p
+            → (holder s r ≡ h.Free) × (fixedActive (at (s .pieces) k .start) (fragmentsOf g r) ≡ false) × (firstStart (at (s .pieces) k .start) (at (s .pieces) k .end) (fragmentsOf g r) ≡ p)
+        by (h.Held j) hx y hy v = absurd (n (sym v))
+        by h.Free hx true hy v = absurd (n (sym v))
+        by h.Free hx false hy v = (hx, hy, v)
+
+    module _ (r : ℕ) (us : Usable T (at (s .pieces) k .interval) r) (fr : holder s r ≡ h.Free) (off : fixedActive (at (s .pieces) k .start) (fragmentsOf g r) ≡ false) where
+      take-keeps : (p : Pos) → firstStart (at (s .pieces) k .start) (at (s .pieces) k .end) (fragmentsOf g r) ≡ p → p ≢ Blocked → Good (Placed S k) (tryAt g s k r p)
+      unfolding tryAt takeUntil
+      take-keeps Blocked v w = absurd (w refl)
+      take-keeps Never v w = inr (r, ready-free r us off fr (takeRegister s k r) (ready-whole r us off (never r us off v)))
+      take-keeps (At a) v w =
+          good-if (Placed S k) (ltb (piece s k .end) a) (goes (takeRegister s k r)) (takeUntil g s k r (partialSplit g (piece s k) a))
+          (λ x. let u = until r us off a v in absurd (omega (arith, u .1, ltb-true (at (s .pieces) k .end) a x)))
+          (λ x. part (partialSplit g (piece s k) a) refl)
+        where
+          part : (z : Spot) → partialSplit g (piece s k) a ≡ z → Good (Placed S k) (takeUntil g s k r z)
+          part Nothing q = blocked-keeps
+          part (Point x) q =
+              let u = until r us off a v in
+              let o = part-spec (at (s .pieces) k) a x sh q in
+              good-on (CutOff S k x s) (Placed S k) (splitAndQueue g s k x) (λ t. goes (takeRegister t k r))
+              (use-cut S k x s (d .inv) (d .here) (omega (arith, d .begins)) (o .0) (omega (arith, o .1, u .1)) (o .2))
+              (λ t c. inr (r, ready-free r us off fr (takeRegister t k r) (ready-late r us off x a (omega (arith, o .1)) (u .2) t c)))
+
+      take-ok : (p : Pos) → firstStart (at (s .pieces) k .start) (at (s .pieces) k .end) (fragmentsOf g r) ≡ p → TryAtOk g s k p
+      take-ok Blocked v = blocked-ok
+      take-ok Never v = tt
+      take-ok (At a) v = λ x. part (partialSplit g (piece s k) a) refl
+        where
+          part : (z : Spot) → partialSplit g (piece s k) a ≡ z → TakeUntilOk g s k z
+          part Nothing q = blocked-ok
+          part (Point x) q = let o = part-spec (at (s .pieces) k) a x sh q in record { here = d .here; above = o .0; below = omega (arith, o .1, until r us off a v .1) }
 
     -- steps 2 to 4
     pub allocate-keeps : Good (Placed S k) (allocate g s k)
     unfolding allocate tryTake
-    allocate-keeps = by (furthestOf (classOf g (piece s k)) (freeUntil g s (piece s k)))
-        (furthest-is (freeUntil g s (at (s .pieces) k)) (classOf g (at (s .pieces) k) .scratch) (classOf g (at (s .pieces) k) .first) (classOf g (at (s .pieces) k) .first + classOf g (at (s .pieces) k) .count) (classOf g (at (s .pieces) k) .first) (classOf g (at (s .pieces) k) .count) AllBlocked (omega arith) (omega arith) tt)
+    allocate-keeps = by (furthestOf (classOf g (piece s k)) (freeUntil g s (piece s k))) (chosen (freeUntil g s (at (s .pieces) k)) (at (s .pieces) k))
       where
-        by : (c : Choice) → ChoiceIs (freeUntil g s (at (s .pieces) k)) (classOf g (at (s .pieces) k) .scratch) (classOf g (at (s .pieces) k) .first) (classOf g (at (s .pieces) k) .first + classOf g (at (s .pieces) k) .count) c → Good (Placed S k) (tryTake g s k c)
+        by : (c : Choice) → ClassChoice (freeUntil g s (at (s .pieces) k)) (at (s .pieces) k) c → Good (Placed S k) (tryTake g s k c)
         by AllBlocked o = blocked-keeps
-        by (Take r p) o = take-keeps r (record { from = o .from; below = o .below; notScratch = o .notScratch }) p (sym (o .is)) (o .unblocked)
+        by (Take r p) o = let y = open-until r p (sym (o .is)) (o .unblocked) in take-keeps r (usable (at (s .pieces) k) r p o) (y .0) (y .1) p (y .2) (o .unblocked)
+
+    pub allocate-ok : AllocateOk g s k
+    allocate-ok = by (furthestOf (classOf g (piece s k)) (freeUntil g s (piece s k))) (chosen (freeUntil g s (at (s .pieces) k)) (at (s .pieces) k))
+      where
+        by : (c : Choice) → ClassChoice (freeUntil g s (at (s .pieces) k)) (at (s .pieces) k) c → TryTakeOk g s k c
+        by AllBlocked o = blocked-ok
+        by (Take r p) o = let y = open-until r p (sym (o .is)) (o .unblocked) in take-ok r (usable (at (s .pieces) k) r p o) (y .0) (y .1) p (y .2)
 
   -- step 1, on a record just popped
   pub popped : (S k : ℕ) (s : State) → Inv g S (But k) s → k < length (s .pieces) → at (s .pieces) k .place ≡ Nowhere → at (s .pieces) k .start ≡ S → Popped S k (dropEnded s S)
@@ -506,3 +587,16 @@ module _ (g : Given) (ok : Accepted (g .tables)) (small : g .capacity ≤ 16384)
       after : (t : State) → Placed S k t → Good (Inv g S NoOne) (handleSafepoints g t k)
       after t (inl (x, (z, e))) = rw e x
       after t (inr (r, y)) = safepoint-keeps g ok small S k r t y
+
+  -- and each of its splits and spills is proper
+  pub step-ok : (S k : ℕ) (s : State) → Inv g S (But k) s → k < length (s .pieces) → at (s .pieces) k .place ≡ Nowhere → at (s .pieces) k .start ≡ S → StepOk g s k
+  step-ok S k s i h f b =
+      let d = popped S k s i h f b in
+      rw b (
+        allocate-ok S k (dropEnded s S) d,
+        good-imp (Placed S k) (λ t. SafepointOk g t k) (allocate g (dropEnded s S) k) after (allocate-keeps S k (dropEnded s S) d),
+      )
+    where
+      after : (t : State) → Placed S k t → SafepointOk g t k
+      after t (inl (x, (z, e))) = λ o. let q : _≡_ {A = Bool} false true = sym (rw e refl) ∙ o in let c : _≡_ {A = ℕ} 0 1 = cc in absurd (omega arith)
+      after t (inr (r, y)) = safepoint-ok g ok small S k r t y

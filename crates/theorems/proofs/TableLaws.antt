@@ -2,30 +2,27 @@
 -- Assumes accepted tables.
 use Prim.Native.Nat.{ℕ, _+_, _-_, _*_, _≤_, _<_}
 use mathlib.Core.Path.{_≡_, refl, sym, ap, _∙_}
-use mathlib.Core.Logic.{_≢_, _⊎_, inl, inr, ⊎-elim}
+use mathlib.Core.Logic.{_⊎_, inl, inr, ⊎-elim}
 use mathlib.Core.Bool.{Bool, true, false, _||_}
 use mathlib.Core.List.{List, [], _∷_, _++_, List·Memᴰ, List·Memᴰ·head, List·Memᴰ·tail, List·Memᴰ·not-nil}
 use native.Mathlib.Omega.{arith}
-use native.Mathlib.Decide.{ℕ-discrete, decLt}
-use borrow.Author.Tests.{leb-true, leb-false, ltb-true, ltb-false}
-use lib.Dec.{leb, ltb}
+use borrow.Author.Tests.{ltb-true, ltb-false}
+use lib.Dec.{ltb}
 use lib.ListN.{length, getD}
 use Rattle.words.specs.Choose.{choose}
 use Rattle.words.specs.Points.{usePoint, defPoint}
 use Rattle.words.specs.Packed.{mentionIn, part, intervalCount}
 use Rattle.words.specs.declared.Mention.{Mention}
 use Rattle.words.specs.declared.Range.{Range}
-use Rattle.words.specs.declared.Spot.{Spot}
-use Rattle.words.specs.declared.Spot.the-variants.{Nothing, Point}
 use Rattle.rules.specs.declared.Piece.{Piece}
 use Rattle.rules.specs.Tables.{Tables}
 use Rattle.rules.specs.Accepted.{InRange, mention, safepoint, interval, Accepted}
-use Rattle.rules.specs.Uses.{atUse, atDef, pointsIn, mentionPoints, nextUse, lastUse}
+use Rattle.rules.specs.Uses.{atUse, atDef, pointsIn, mentionPoints}
 use Rattle.rules.specs.Split.{countOf, anyBelow, stayingMentions, stayingSafepoints}
-use Rattle.theorems.specs.Invariant.{Run, firstPoint, lastPoint, useAt, Shape}
+use Rattle.theorems.specs.Invariant.{firstPoint, lastPoint, useAt, Shape}
 use Rattle.theorems.proofs.RunLaws.{Rising, CutAt}
 use Rattle.theorems.proofs.ListLaws.{Prefix, count-most, count-at, length-part, at-part, part-has, part-is}
-use Rattle.theorems.proofs.UseLaws.{Least, Greatest, NextIs, LastIs, next-is, last-is, any-below, none-below, points-has, points-is}
+use Rattle.theorems.proofs.UseLaws.{any-below, none-below, points-has, points-is}
 
 -- ---- one mention with a flag set
 abbrev firstOf : Mention → ℕ

@@ -2,3 +2,4 @@
 pub mod Invariant
 pub mod Reach
 pub mod Defined
+pub mod Proper

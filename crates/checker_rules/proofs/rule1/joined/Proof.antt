@@ -4,7 +4,6 @@ use borrow.Author.Needs.{needs}
 use Rattle.checker_rules.proofs.TilesLaws.{Joining, joining-starts, joining-ends, joining-breaks, joining-more}
 use Rattle.checker_rules.proofs.OrderLaws.{due, left, left-less}
 use mathlib.Core.Path.{refl}
-use native.Mathlib.Omega.{arith}
 use Rattle.checker_rules.proofs.rule1.joined.Statement.{statement}
 use Rattle.checker_rules.proofs.rule1.joined.Tie as tie
 

@@ -1,6 +1,5 @@
 -- `rule1::known` meets its contract: kinds 1 and 2 are known, and no other.
 -- Assumes nothing.
-use borrow.Author.Needs.{needs}
 use Rattle.checker_rules.proofs.TilesLaws.{known-one, known-two, known-not}
 use Rattle.checker_rules.proofs.rule1.known.Statement.{statement}
 use Rattle.checker_rules.proofs.rule1.known.Tie as tie

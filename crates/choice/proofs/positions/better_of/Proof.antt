@@ -5,6 +5,9 @@ use Rattle.choice.proofs.PositionLaws.{never-scratch, first-choice, no-
 use Rattle.choice.proofs.positions.better_of.Statement.{statement}
 use Rattle.choice.proofs.positions.better_of.Tie as tie
 
+cast-r : tie.Need-cast-r
+cast-r c = search needs
+
 returns : tie.Need-returns
 returns c = search never-scratch
 
@@ -14,17 +17,11 @@ enum-told c = search needs
 below-of-requires : tie.Need-below-of-requires
 below-of-requires c κs = search needs
 
-cast-t12 : tie.Need-cast-t12
-cast-t12 c = search needs
-
 enum-known-best : tie.Need-enum-known-best
 enum-known-best c = search needs
 
 below-of-requires-2 : tie.Need-below-of-requires-2
 below-of-requires-2 c κs = search needs
-
-cast-t15 : tie.Need-cast-t15
-cast-t15 c = search needs
 
 returns-2 : tie.Need-returns-2
 returns-2 c = search first-choice
@@ -42,13 +39,12 @@ pub better-of-spec : {M : Type 1} → statement M
 better-of-spec =
     tie.close
     (tie.spec
+    cast-r
     returns
     enum-told
     below-of-requires
-    cast-t12
     enum-known-best
     below-of-requires-2
-    cast-t15
     returns-2
     returns-3
     returns-4

@@ -1,6 +1,6 @@
 -- `tables::fixed::end_before` meets its contract: the fragments before the first register end at 0, those before any other where the register before it says.
 -- Assumes nothing.
-use Rattle.tables.proofs.EntryLaws.{registers-first, registers-next}
+use Rattle.tables.proofs.EntryLaws.{registers-next}
 use borrow.Author.Needs.{needs}
 use Rattle.tables.proofs.fixed.end_before.Statement.{statement}
 use Rattle.tables.proofs.fixed.end_before.Tie as tie

@@ -6,7 +6,6 @@ use Rattle.rules.specs.Sound.{badUnless, intervalGood}
 use Rattle.words.specs.Packed.{intervalCount}
 use Rattle.tables.proofs.WalkLaws.{whole-starts, walk-more, walk-stops, walk-ends, test-clean, test-bad}
 use Prim.Native.Nat.{_-_}
-use lib.ListN.{length}
 use borrow.Author.Needs.{needs}
 use Rattle.tables.proofs.intervals.first_interval.Statement.{statement}
 use Rattle.tables.proofs.intervals.first_interval.Tie as tie

@@ -6,7 +6,6 @@ use Rattle.words.specs.Packed.{intervalAt, intervalCount}
 use Rattle.tables.proofs.EntryLaws.{mentions-clean, mentions-stop, mention-range}
 use Rattle.tables.proofs.WalkLaws.{whole-starts, walk-more, walk-ends}
 use Prim.Native.Nat.{_-_}
-use lib.ListN.{length}
 use borrow.Author.Needs.{needs}
 use Rattle.tables.proofs.mentions.bad_mention.Statement.{statement}
 use Rattle.tables.proofs.mentions.bad_mention.Tie as tie

@@ -6,7 +6,6 @@ use Rattle.rules.specs.Sound.{badUnless, mentionGood}
 use mathlib.Core.List.{[]}
 use Rattle.tables.proofs.WalkLaws.{walk-starts, walk-more, walk-stops, walk-ends, test-clean, test-bad}
 use Prim.Native.Nat.{_-_}
-use lib.ListN.{length}
 use borrow.Author.Needs.{needs}
 use Rattle.tables.proofs.mentions.first_mention.Statement.{statement}
 use Rattle.tables.proofs.mentions.first_mention.Tie as tie

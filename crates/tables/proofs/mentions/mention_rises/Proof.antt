@@ -1,6 +1,5 @@
 -- `tables::mentions::mention_rises` meets its contract: the first mention of an interval has none before it, every other is compared with the one before it.
 -- Assumes nothing.
-use Prim.Native.Nat.{_<_}
 use Rattle.tables.proofs.EntryLaws.{rises-first, mention-rises}
 use borrow.Author.Needs.{needs}
 use Rattle.tables.proofs.mentions.mention_rises.Statement.{statement}

@@ -6,7 +6,6 @@ use Rattle.words.specs.Packed.{intervalAt, intervalCount}
 use Rattle.tables.proofs.SafepointLaws.{safepoints-clean, safepoints-stop, mentions-placed, safepoints-placed}
 use Rattle.tables.proofs.WalkLaws.{whole-starts, walk-more, walk-ends}
 use Prim.Native.Nat.{_-_}
-use lib.ListN.{length}
 use borrow.Author.Needs.{needs}
 use Rattle.tables.proofs.safepoints.bad_safepoint.Statement.{statement}
 use Rattle.tables.proofs.safepoints.bad_safepoint.Tie as tie

@@ -1,0 +1,47 @@
+-- `assign::fronts::front` meets its contract: the class is in the table, and no cursor has to go back.
+-- Assumes nothing.
+use borrow.Author.Needs.{needs}
+use Rattle.assign.proofs.FrontLaws.{front-class, front-ready, fronts}
+use Rattle.assign.proofs.fronts.front.Statement.{statement}
+use Rattle.assign.proofs.fronts.front.Tie as tie
+
+start-of-requires : tie.Need-start-of-requires
+start-of-requires c κs = search needs
+
+class-index-requires : tie.Need-class-index-requires
+class-index-requires c κs = search needs
+
+class-at-requires : tie.Need-class-at-requires
+class-at-requires c κs = search front-class
+
+cast-active : tie.Need-cast-active
+cast-active c = search needs
+
+cast-updated : tie.Need-cast-updated
+cast-updated c = search needs
+
+cast-updated-2 : tie.Need-cast-updated-2
+cast-updated-2 c = search needs
+
+updated-requires : tie.Need-updated-requires
+updated-requires c κs = search front-ready
+
+same-length : tie.Need-same-length
+same-length c = search needs
+
+returns : tie.Need-returns
+returns c = let b = c .before .before .before .before .before .before .before .before .before .start-of .ensures in let g = c .before .before .before .before .before .before .before .before .before .before .before .before .before .before .before .before .pre .0 in search fronts
+
+pub front-spec : {M : Type 1} → statement M
+front-spec =
+    tie.close
+    (tie.spec
+    start-of-requires
+    class-index-requires
+    class-at-requires
+    cast-active
+    cast-updated
+    cast-updated-2
+    updated-requires
+    same-length
+    returns)

@@ -1,0 +1,107 @@
+-- `assign::run::run` meets its contract: each turn is one pop of the rules' run, and what is left to run is what there was to run.
+-- Assumes nothing.
+use borrow.Author.Needs.{needs}
+use native.Mathlib.Omega.{arith}
+use Prim.Native.Nat.{_-_}
+use Rattle.assign.proofs.RunLaws.{Going, going-few, going-starts, going-turns, going-empty, going-out, going-settles, going-on, going-off, front-faces}
+use Rattle.assign.proofs.run.run.Statement.{statement}
+use Rattle.assign.proofs.run.run.Tie as tie
+
+abbrev Inv-loop : tie.InvT-loop
+Inv-loop mode instructions classes registers fragments intervals mentions safepoints work₀ cap counts₀ tracker₀ free₀ turn₀ work counts tracker free turn =
+    Going instructions mode classes registers fragments intervals mentions safepoints cap work₀ work counts tracker free turn
+
+abbrev μ-loop : tie.MeasureT-loop
+μ-loop mode instructions classes registers fragments intervals mentions safepoints work₀ cap counts₀ tracker₀ free₀ turn₀ work counts tracker free turn =
+    cap - turn
+
+fresh-requires : tie.Need-fresh-requires Inv-loop μ-loop
+fresh-requires c κs = search going-few
+
+never-rows-requires : tie.Need-never-rows-requires Inv-loop μ-loop
+never-rows-requires c κs = search needs
+
+loop-holds : tie.Need-loop-holds Inv-loop μ-loop
+loop-holds c = search going-starts
+
+same-length : tie.Need-same-length Inv-loop μ-loop
+same-length c = search needs
+
+returns : tie.Need-returns Inv-loop μ-loop
+returns c = search going-empty
+
+front-requires : tie.Need-front-requires Inv-loop μ-loop
+front-requires c κs = (search going-turns, search needs)
+
+free-row-requires : tie.Need-free-row-requires Inv-loop μ-loop
+free-row-requires c κs = front-faces _ _ _ _ _ _ _ _ _ (c .before .before .before .front .ensures)
+
+mul-free : tie.Need-mul-free Inv-loop μ-loop
+mul-free c = search needs
+
+array-set-from-free : tie.Need-array-set-from-free Inv-loop μ-loop
+array-set-from-free c = search needs
+
+mul-row : tie.Need-mul-row Inv-loop μ-loop
+mul-row c = search needs
+
+array-copy-out-row : tie.Need-array-copy-out-row Inv-loop μ-loop
+array-copy-out-row c = search needs
+
+settle-requires : tie.Need-settle-requires Inv-loop μ-loop
+settle-requires c κs = going-settles _ _ _ _ _ _ _ _ _ _ _ _ _ _ _ (c .before .before .before .before .before .before .before .before .before .before .before .loop .inv) _ _ (c .before .before .before .before .before .before .front .ensures) _ (c .before .before .free-row .ensures)
+
+enum-known-settled : tie.Need-enum-known-settled Inv-loop μ-loop
+enum-known-settled c = search needs
+
+enum-known-settled-2 : tie.Need-enum-known-settled-2 Inv-loop μ-loop
+enum-known-settled-2 c = search needs
+
+same-length-2 : tie.Need-same-length-2 Inv-loop μ-loop
+same-length-2 c = let o = c .before .before .before .before .before .before .before .before .before .before .before .before .before .before .before .before .before .loop .inv in let p = c .before .before .before .before .before .before .before .before .before .before .before .before .front .ensures in let d = c .before .before .before .before .before .settle .ensures in search needs
+
+returns-2 : tie.Need-returns-2 Inv-loop μ-loop
+returns-2 c = search going-off
+
+add-turn : tie.Need-add-turn Inv-loop μ-loop
+add-turn c = let l = c .before .before .before .before .before .before .before .before .before .before .before .before .before .before .before .before .before .loop-test in let o = c .before .before .before .before .before .before .before .before .before .before .before .before .before .before .before .before .before .before .loop .inv in search needs
+
+loop-less : tie.Need-loop-less Inv-loop μ-loop
+loop-less c = let l = c .before .before .before .before .before .before .before .before .before .before .before .before .before .before .before .before .before .loop-test in let o = c .before .before .before .before .before .before .before .before .before .before .before .before .before .before .before .before .before .before .loop .inv in search needs
+
+loop-again : tie.Need-loop-again Inv-loop μ-loop
+loop-again c = going-on _ _ _ _ _ _ _ _ _ _ _ _ _ _ _ (c .before .before .before .before .before .before .before .before .before .before .before .before .before .before .before .before .before .before .loop .inv) _ _ (c .before .before .before .before .before .before .before .before .before .before .before .before .before .front .ensures) _ _ (let l = c .before .before .before .before .before .before .before .before .before .before .before .before .before .before .before .before .before .loop-test in omega arith) (c .before .before .before .before .before .before .settle .ensures) _ _ _ (c .before .before .settled .given .1)
+
+same-length-3 : tie.Need-same-length-3 Inv-loop μ-loop
+same-length-3 c = search needs
+
+returns-3 : tie.Need-returns-3 Inv-loop μ-loop
+returns-3 c = search going-out
+
+pub run-spec : {M : Type 1} → statement M
+run-spec =
+    tie.close
+    (tie.spec
+    Inv-loop
+    μ-loop
+    fresh-requires
+    never-rows-requires
+    loop-holds
+    same-length
+    returns
+    front-requires
+    free-row-requires
+    mul-free
+    array-set-from-free
+    mul-row
+    array-copy-out-row
+    settle-requires
+    enum-known-settled
+    enum-known-settled-2
+    same-length-2
+    returns-2
+    add-turn
+    loop-less
+    loop-again
+    same-length-3
+    returns-3)

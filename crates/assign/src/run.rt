@@ -1,0 +1,71 @@
+// The main loop: pop, update, try, then safepoints. At most as many pops as there is capacity.
+use crate::fronts;
+use crate::settling;
+use choice::rows;
+use rules::Mode;
+use split::Turn;
+use store::Counts;
+ghost use Rattle.tables.specs.Given.{tables};
+ghost use Rattle.assign.specs.Calling.{Begun, Ran};
+
+pub(crate) fn run(
+    mode: Mode,
+    instructions: u32,
+    classes: &[u32],
+    registers: &[u32],
+    fragments: &[u32],
+    intervals: &[u32],
+    mentions: &[u32],
+    safepoints: &[u32],
+    work: &mut [u32],
+    cap: usize,
+    begun: Counts,
+) -> Turn
+    requires { ⌜ Begun (tables instructions (now classes) (now registers) (now fragments) (now intervals) (now mentions) (now safepoints)) cap (now work) begun ⌝ }
+    ensures { λ r. ⌜ Ran mode (tables instructions (now (classes .entry)) (now (registers .entry)) (now (fragments .entry)) (now (intervals .entry)) (now (mentions .entry)) (now (safepoints .entry))) cap (now (work .entry)) (now (work .exit)) r ⌝ }
+{
+    let mut counts = begun;
+    let mut tracker = activity::fresh(registers);
+    let mut free = rows::never_rows();
+    let mut turn = 0;
+    while turn < cap {
+        if counts.queued == 0 {
+            return Turn::On(counts);
+        }
+        let f = fronts::front(
+            classes,
+            registers,
+            fragments,
+            intervals,
+            work,
+            cap,
+            counts,
+            tracker,
+        );
+        let index = f.index;
+        free[index] = fronts::free_row(registers, fragments, work, cap, f);
+        let row = free[index];
+        let settled = settling::settle(
+            mode,
+            instructions,
+            classes,
+            registers,
+            fragments,
+            intervals,
+            mentions,
+            safepoints,
+            work,
+            cap,
+            f,
+            row,
+        );
+        match settled {
+            Turn::On(next) => counts = next,
+            Turn::Off(answer) => return Turn::Off(answer),
+        }
+        let moved = f.tracker;
+        tracker = moved;
+        turn += 1;
+    }
+    Turn::On(counts)
+}

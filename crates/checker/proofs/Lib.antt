@@ -1,0 +1,3 @@
+-- The laws behind the call.
+pub mod ReadyLaws
+pub mod VerdictLaws

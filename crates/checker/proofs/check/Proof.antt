@@ -1,0 +1,55 @@
+-- `check` meets its contract: the claim is looked at first, then the tables, then the rules.
+-- Assumes nothing.
+use Rattle.checker.proofs.VerdictLaws.{over-count, over-words, tables-refused, answered}
+use Rattle.checker.proofs.ReadyLaws.{ready}
+use Rattle.rules.proofs.Accepted.{accepted}
+use mathlib.Core.Path.{sym, _∙_}
+use native.Mathlib.Omega.{arith}
+use borrow.Author.Needs.{needs}
+use Rattle.checker.proofs.check.Statement.{statement}
+use Rattle.checker.proofs.check.Tie as tie
+
+returns : tie.Need-returns
+returns c = over-count _ _ (c .if1 .taken)
+
+mul-if2 : tie.Need-mul-if2
+mul-if2 c = search needs
+
+returns-2 : tie.Need-returns-2
+returns-2 c = over-words _ _ (c .before .if1 .left) (c .if2 .taken)
+
+check-tables-requires : tie.Need-check-tables-requires
+check-tables-requires c κs = search needs
+
+enum-known-checked : tie.Need-enum-known-checked
+enum-known-checked c = search needs
+
+returns-3 : tie.Need-returns-3
+returns-3 c = tables-refused _ _ (c .before .before .before .before .before .if1 .left) (c .before .before .before .before .if2 .left) _ _ (c .before .before .before .check-tables .ensures) (c .before .checked .given .1)
+
+enum-told : tie.Need-enum-told
+enum-told c = search needs
+
+judge-requires : tie.Need-judge-requires
+judge-requires c κs = ready _ (accepted _ (sym (c .before .before .check-tables .ensures) ∙ c .enum-told .given .1)) _ (c .before .before .before .before .if1 .left) (c .before .before .before .if2 .left) (λ i. omega (arith, c .before .before .before .before .before .before .before .shared-slice-known5 .given i)) (λ i. omega (arith, c .before .before .before .before .before .before .before .before .before .shared-slice-known3 .given i))
+
+answer-requires : tie.Need-answer-requires
+answer-requires c κs = search needs
+
+returns-4 : tie.Need-returns-4
+returns-4 c = answered _ _ (c .before .before .before .before .before .before .if1 .left) (c .before .before .before .before .before .if2 .left) (c .before .before .before .before .check-tables .result) (c .before .judge .result) (c .answer .result) (c .before .before .before .before .check-tables .ensures) (c .before .before .enum-told .given .1) (c .before .judge .ensures) (c .answer .ensures)
+
+pub check-spec : {M : Type 1} → statement M
+check-spec =
+    tie.close
+    (tie.spec
+    returns
+    mul-if2
+    returns-2
+    check-tables-requires
+    enum-known-checked
+    returns-3
+    enum-told
+    judge-requires
+    answer-requires
+    returns-4)

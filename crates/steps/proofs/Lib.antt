@@ -1,0 +1,4 @@
+pub mod TakingLaws
+pub mod WeighingLaws
+pub mod BlockedLaws
+pub mod AllocateLaws

@@ -1,0 +1,2 @@
+-- Facts for the contracts of the steps. What is right is said by `rules`.
+pub mod Stepping

@@ -73,7 +73,7 @@ pub(crate) fn front(
     let class = read::class_at(classes, index);
     let after = begun.counts;
     let active = after.active as u16;
-    let moved = activity::updated(
+    let moved = activity::tracked(
         tracker,
         registers,
         fragments,

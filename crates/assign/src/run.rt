@@ -24,24 +24,15 @@ pub(crate) fn run(
     requires { ⌜ Begun (tables instructions (now classes) (now registers) (now fragments) (now intervals) (now mentions) (now safepoints)) cap (now work) begun ⌝ }
     ensures { λ r. ⌜ Ran mode (tables instructions (now (classes .entry)) (now (registers .entry)) (now (fragments .entry)) (now (intervals .entry)) (now (mentions .entry)) (now (safepoints .entry))) cap (now (work .entry)) (now (work .exit)) r ⌝ }
 {
-    let mut counts = begun;
-    let mut tracker = activity::fresh(registers);
+    let mut c = begun;
+    let mut t = activity::fresh(registers);
     let mut free = rows::never_rows();
     let mut turn = 0;
     while turn < cap {
-        if counts.queued == 0 {
-            return Turn::On(counts);
+        if c.queued == 0 {
+            return Turn::On(c);
         }
-        let f = fronts::front(
-            classes,
-            registers,
-            fragments,
-            intervals,
-            work,
-            cap,
-            counts,
-            tracker,
-        );
+        let f = fronts::front(classes, registers, fragments, intervals, work, cap, c, t);
         let index = f.index;
         free[index] = fronts::free_row(registers, fragments, work, cap, f);
         let row = free[index];
@@ -60,12 +51,12 @@ pub(crate) fn run(
             row,
         );
         match settled {
-            Turn::On(next) => counts = next,
+            Turn::On(next) => c = next,
             Turn::Off(answer) => return Turn::Off(answer),
         }
         let moved = f.tracker;
-        tracker = moved;
+        t = moved;
         turn += 1;
     }
-    Turn::On(counts)
+    Turn::On(c)
 }

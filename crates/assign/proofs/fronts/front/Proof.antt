@@ -17,14 +17,14 @@ class-at-requires c κs = search front-class
 cast-active : tie.Need-cast-active
 cast-active c = search needs
 
-cast-updated : tie.Need-cast-updated
-cast-updated c = search needs
+cast-tracked : tie.Need-cast-tracked
+cast-tracked c = search needs
 
-cast-updated-2 : tie.Need-cast-updated-2
-cast-updated-2 c = search needs
+cast-tracked-2 : tie.Need-cast-tracked-2
+cast-tracked-2 c = search needs
 
-updated-requires : tie.Need-updated-requires
-updated-requires c κs = search front-ready
+tracked-requires : tie.Need-tracked-requires
+tracked-requires c κs = search front-ready
 
 same-length : tie.Need-same-length
 same-length c = search needs
@@ -40,8 +40,8 @@ front-spec =
     class-index-requires
     class-at-requires
     cast-active
-    cast-updated
-    cast-updated-2
-    updated-requires
+    cast-tracked
+    cast-tracked-2
+    tracked-requires
     same-length
     returns)

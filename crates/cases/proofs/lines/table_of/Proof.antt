@@ -1,0 +1,55 @@
+-- `cases::lines::table_of` meets its contract: the words that were read fit, and the line leads on.
+-- Assumes nothing.
+use Rattle.cases.proofs.BoundLaws.{rest-span, table-filled}
+use borrow.Author.Needs.{needs}
+use Rattle.cases.proofs.lines.table_of.Statement.{statement}
+use Rattle.cases.proofs.lines.table_of.Tie as tie
+
+line-of-requires : tie.Need-line-of-requires
+line-of-requires c κs = search needs
+
+enum-known-rest : tie.Need-enum-known-rest
+enum-known-rest c = search needs
+
+enum-told : tie.Need-enum-told
+enum-told c = search needs
+
+returns : tie.Need-returns
+returns c = search needs
+
+words-in-requires : tie.Need-words-in-requires
+words-in-requires c κs = rest-span _ _ (c .before .before .rest .given .1) (c .before .before .before .before .line-of .ensures)
+
+enum-known-n : tie.Need-enum-known-n
+enum-known-n c = search needs
+
+enum-known-w : tie.Need-enum-known-w
+enum-known-w c = search needs
+
+same-length : tie.Need-same-length
+same-length c = search needs
+
+returns-2 : tie.Need-returns-2
+returns-2 c = table-filled _ _ _ (c .before .before .before .before .before .before .before .before .rest .given .1) (c .before .before .before .before .before .before .before .before .before .before .line-of .ensures) (c .before .n .given .1) (c .before .before .before .before .before .words-in .ensures)
+
+same-length-2 : tie.Need-same-length-2
+same-length-2 c = search needs
+
+returns-3 : tie.Need-returns-3
+returns-3 c = search needs
+
+pub table-of-spec : {M : Type 1} → statement M
+table-of-spec =
+    tie.close
+    (tie.spec
+    line-of-requires
+    enum-known-rest
+    enum-told
+    returns
+    words-in-requires
+    enum-known-n
+    enum-known-w
+    same-length
+    returns-2
+    same-length-2
+    returns-3)

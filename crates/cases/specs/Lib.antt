@@ -1,0 +1,4 @@
+pub mod Bounds
+pub mod Parts
+pub mod Reading
+pub mod Writing

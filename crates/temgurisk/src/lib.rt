@@ -1,9 +1,12 @@
 // The C face: the two calls, their slices as pointer and count, and the answer as four words. include/temgurisk.h declares it.
 use rules::Answer;
 ghost use mathlib.Core.Path.{_≡_};
+ghost use Rattle.rules.specs.Call.{Assigned};
+ghost use Rattle.rules.specs.Checker.{Checks};
 ghost use Rattle.tables.specs.Given.{tables};
+ghost use Rattle.assign.specs.Calling.{options};
 ghost use Rattle.checker.specs.Verdict.{claim};
-ghost use Rattle.temgurisk.specs.Replies.{refused, replyOf, Reviewed};
+ghost use Rattle.temgurisk.specs.Replies.{refused, replyOf, Replied, Reviewed};
 
 // An answer by document 01's numbers.
 #[repr(C)]
@@ -53,6 +56,41 @@ pub fn reply_of(a: Answer) -> Reply
         Answer::FixedClash(k) => refusal(13, k as u32),
         Answer::BrokenRule(j) => refusal(14, j as u32),
     }
+}
+
+// `assign::call::assign`, which says what both areas hold afterwards.
+#[no_mangle]
+pub extern "C" fn temgurisk_assign(
+    strategy: u32,
+    partial_split: bool,
+    partial_split_near_end: bool,
+    instructions: u32,
+    classes: &[u32],
+    registers: &[u32],
+    fragments: &[u32],
+    intervals: &[u32],
+    mentions: &[u32],
+    safepoints: &[u32],
+    result: &mut [u32],
+    work: &mut [u32],
+) -> Reply
+    ensures { λ r. ⌜ Replied (options strategy «partial_split» «partial_split_near_end») (tables instructions (now (classes .entry)) (now (registers .entry)) (now (fragments .entry)) (now (intervals .entry)) (now (mentions .entry)) (now (safepoints .entry))) (now (result .entry)) (now (result .exit)) (now (work .entry)) (now (work .exit)) r ⌝ }
+{
+    let answer = assign::call::assign(
+        strategy,
+        partial_split,
+        partial_split_near_end,
+        instructions,
+        classes,
+        registers,
+        fragments,
+        intervals,
+        mentions,
+        safepoints,
+        result,
+        work,
+    );
+    reply_of(answer)
 }
 
 // `checker::check`, which writes nothing.

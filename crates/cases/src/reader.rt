@@ -12,12 +12,16 @@ use crate::lines::Fault;
 use crate::lines::Step;
 use crate::lines::Title;
 use crate::scan;
+ghost use mathlib.Core.Path.{_≡_};
 ghost use Prim.Native.Nat.{ℕ, _+_, _<_, _≤_};
 ghost use lib.ListN.{length};
 ghost use Rattle.cases.specs.Reading.{Told, Reads, Onward};
 
 // The start of a text.
-pub fn start() -> Cursor {
+pub fn start() -> Cursor
+    ensures { λ c. ⌜ c .at ≡ 0 ⌝ }
+    ensures { λ c. ⌜ c .line ≡ 1 ⌝ }
+{
     Cursor { at: 0, line: 1 }
 }
 

@@ -33,7 +33,10 @@ same-length-2 : tie.Need-same-length-2
 same-length-2 c = search needs
 
 returns-3 : tie.Need-returns-3
-returns-3 c = record { fits = tabled-filled _ _ (c .before .count .given .1) (c .before .before .before .before .before .table-of .ensures) .fits; within = tabled-filled _ _ (c .before .count .given .1) (c .before .before .before .before .before .table-of .ensures) .within }
+returns-3 c =
+    let after-count : tie.After-count = search needs in
+    let after-table-of : tie.After-table-of = search needs in
+    record { fits = tabled-filled _ _ (after-count .count .given .1) (after-table-of .table-of .ensures) .fits; within = tabled-filled _ _ (after-count .count .given .1) (after-table-of .table-of .ensures) .within }
 
 pub table-then-spec : {M : Type 1} → statement M
 table-then-spec =

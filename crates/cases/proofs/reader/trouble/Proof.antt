@@ -15,7 +15,10 @@ further-requires : tie.Need-further-requires
 further-requires c κs = search needs
 
 returns : tie.Need-returns
-returns c = record { names = refl; later = c .further .ensures _ (c .before .recovered .ensures) (c .before .before .before .before .before .pre) .0; within = c .further .ensures _ (c .before .recovered .ensures) (c .before .before .before .before .before .pre) .1 }
+returns c =
+    let after-recovered : tie.After-recovered = search needs in
+    let start : tie.Start = search needs in
+    record { names = refl; later = c .further .ensures _ (after-recovered .recovered .ensures) (start .pre) .0; within = c .further .ensures _ (after-recovered .recovered .ensures) (start .pre) .1 }
 
 pub trouble-spec : {M : Type 1} → statement M
 trouble-spec = tie.close (tie.spec next-line-requires recovered-requires further-requires returns)

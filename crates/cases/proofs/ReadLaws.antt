@@ -1,5 +1,5 @@
 -- How the reader moves on: from a case's first line to past its last.
-use mathlib.Core.Path.{_≡_, sym, subst}
+use mathlib.Core.Path.{_≡_, refl, sym, subst}
 use Prim.Native.Nat.{ℕ, _≤_, _<_}
 use native.Mathlib.Omega.{arith}
 use Rattle.cases.specs.Bounds.{Follows, Named, Titled}
@@ -8,6 +8,7 @@ use Rattle.cases.specs.Reading.{Told, Onward, Good, Reads}
 use Rattle.cases.specs.declared.Span.{Span}
 use Rattle.cases.specs.declared.Cursor.{Cursor}
 use Rattle.cases.specs.declared.Trouble.{Trouble}
+use Rattle.cases.specs.declared.What.{What}
 use Rattle.cases.specs.declared.Options.{Options}
 use Rattle.cases.specs.declared.Read.{Read}
 use Rattle.cases.specs.declared.scan.Line.{Line}
@@ -34,6 +35,11 @@ further-on at n h f =
       later = omega (arith, h .later, f .0);
       within = f .1;
     }
+
+-- what is told of a case that could not be read: the place to go on from is the further one of two
+pub told-further : (n : ℕ) (s : Span) (l : ℕ) (w : What) (a after r : Cursor) → a .at ≤ n → after .at ≤ n → ((i : ℕ) → a .at ≤ i → after .at ≤ i → (after .at ≤ r .at) × (r .at ≤ i))
+    → Told s after n record { name = s; line = l; what = w; next = r }
+told-further n s l w a after r h k f = let p = f n h k in record { names = refl; later = p .0; within = p .1 }
 
 -- a case that could not be read has a name in the text, and the reader has moved on
 pub told-on : (at n : ℕ) {s : Span} {next : Cursor} {t : Trouble} → Named at n s next → Told s next n t → Onward at n (t .name) (t .next)

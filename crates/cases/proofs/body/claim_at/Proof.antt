@@ -54,17 +54,8 @@ returns-3 c = c .missing3 .ensures _ _
 same-length-3 : tie.Need-same-length-3
 same-length-3 c = search needs
 
--- places further back
-abbrev to-after-line-of : tie.After-rest → tie.After-line-of
-to-after-line-of c = search needs
-
 returns-4 : tie.Need-returns-4
-returns-4 c =
-    let after-n : tie.After-n = search needs in
-    let after-words-in : tie.After-words-in = search needs in
-    let after-rest : tie.After-rest = search needs in
-    let after-line-of = to-after-line-of after-rest in
-    record { fits = (omega arith, words-fit _ (after-n .n .given .1) (after-words-in .words-in .ensures)); within = line-within _ _ (after-rest .rest .given .1) (after-line-of .line-of .ensures) }
+returns-4 c = record { fits = (omega arith, search words-fit); within = search line-within }
 
 pub claim-at-spec : {M : Type 1} → statement M
 claim-at-spec =

@@ -27,10 +27,7 @@ returns-2 : tie.Need-returns-2
 returns-2 c = search needs
 
 returns-3 : tie.Need-returns-3
-returns-3 c =
-    let after-step2 : tie.After-step2 = search needs in
-    let start : tie.Start = search needs in
-    record { fits = tt; within = step-within _ (after-step2 .step2 .given .1) (start .pre) }
+returns-3 c = record { fits = tt; within = search step-within }
 
 pub claim-then-spec : {M : Type 1} → statement M
 claim-then-spec =

@@ -34,9 +34,10 @@ same-length-2 c = search needs
 
 returns-3 : tie.Need-returns-3
 returns-3 c =
-    let after-count : tie.After-count = search needs in
-    let after-table-of : tie.After-table-of = search needs in
-    record { fits = tabled-filled _ _ (after-count .count .given .1) (after-table-of .table-of .ensures) .fits; within = tabled-filled _ _ (after-count .count .given .1) (after-table-of .table-of .ensures) .within }
+    let e : tie.After-count = search needs in
+    let h : tie.After-table-of = search needs in
+    let f = tabled-filled _ _ (e .count .given .1) (h .table-of .ensures) in
+    record { fits = f .fits; within = f .within }
 
 pub table-then-spec : {M : Type 1} → statement M
 table-then-spec =

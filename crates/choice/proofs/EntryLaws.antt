@@ -8,18 +8,13 @@ use native.Mathlib.Decide.{ℕ-discrete}
 use native.Mathlib.Numerals.{add-one}
 use lib.ListN.{length, getD, set, length-set}
 use lib.Seq.{getD-set-same, getD-set-other}
+use Rattle.words.proofs.Fold.{one-less, none-left}
 use Rattle.rules.specs.declared.Pos.{Pos}
 use Rattle.rules.specs.declared.Choice.{Choice}
 use Rattle.rules.specs.declared.Choice.the-variants.{AllBlocked}
 use Rattle.rules.specs.Steps.{furthest}
 use Rattle.choice.specs.declared.RegPos.{RegPos}
 use Rattle.choice.specs.Row.{posIn, better, noEntry, entryAt, furthestEntry, Entries}
-
-one-less : (i n : ℕ) → i < n → n - i ≡ suc (n - (i + 1))
-one-less i n h = omega arith
-
-none-left : (i n : ℕ) → n ≤ i → n - i ≡ 0
-none-left i n h = omega arith
 
 -- what is left of the scan from i on, with the best so far, is the whole scan
 pub record Reading (es : List RegPos) (scratch count : ℕ) (best : Choice) (i : ℕ) : Type 0 where

@@ -29,8 +29,15 @@ tracked-requires c κs = search front-ready
 same-length : tie.Need-same-length
 same-length c = search needs
 
+-- the function's entry, and the place after the call of `start_of`
+abbrev entry : tie.After-start-of → tie.Start
+entry c = search needs
+
+abbrev started : tie.After-tracked → tie.After-start-of
+started c = search needs
+
 returns : tie.Need-returns
-returns c = let b = c .before .before .before .before .before .before .before .before .before .start-of .ensures in let g = c .before .before .before .before .before .before .before .before .before .before .before .before .before .before .before .before .pre .0 in search fronts
+returns c = let b = started c .start-of .ensures in let g = entry (started c) .pre .0 in search fronts
 
 pub front-spec : {M : Type 1} → statement M
 front-spec =

@@ -31,7 +31,7 @@ maybe-handle-safepoints-requires : tie.Need-maybe-handle-safepoints-requires
 maybe-handle-safepoints-requires c κs =
     let t : tie.After-try-allocate-reg = search needs in
     let o : tie.After-taken = search needs in
-    settle-held _ _ _ _ _ _ _ _ _ _ (entry t .pre) _ _ _ _ _ (t .try-allocate-reg .ensures) _ (o .taken .given .1)
+    settle-held _ _ _ _ _ _ _ _ _ _ _ (entry t .pre) _ _ _ _ _ (t .try-allocate-reg .ensures) _ (o .taken .given .1)
 
 enum-known-taken-2 : tie.Need-enum-known-taken-2
 enum-known-taken-2 c = search needs
@@ -45,7 +45,7 @@ returns c =
     let o : tie.After-taken = search needs in
     let t : tie.After-try-allocate-reg = search needs in
     let f : tie.After-furthest-of = search needs in
-    settle-on _ _ _ _ _ _ _ _ _ _ (entry t .pre) _ _ _ _ _ (t .try-allocate-reg .ensures) (f .furthest-of .ensures) _ _ _ (o .taken .given .1) (m .maybe-handle-safepoints .ensures)
+    settle-on _ _ _ _ _ _ _ _ _ _ _ (entry t .pre) _ _ _ _ _ (t .try-allocate-reg .ensures) (f .furthest-of .ensures) _ _ _ (o .taken .given .1) (m .maybe-handle-safepoints .ensures)
 
 same-length-2 : tie.Need-same-length-2
 same-length-2 c = search needs

@@ -1,69 +1,47 @@
--- The scan for the furthest register over a slice of entries, and that it agrees with the scan over the row. Assumes nothing.
-use Prim.Native.Nat.{ℕ, zero, suc, _+_, _-_, _≤_, _<_}
+-- The scan for the furthest register over a slice of entries, and that four entries are four registers of the row. Assumes nothing.
+use Prim.Native.Nat.{ℕ, _+_, _-_, _≤_, _<_}
 use mathlib.Core.Path.{_≡_, refl, sym, _∙_}
-use mathlib.Core.List.{List}
-use native.Mathlib.Nat.{add-zero, add-suc}
+use mathlib.Core.Bool.{Bool, true}
+use mathlib.Core.List.{List, [], _∷_}
 use native.Mathlib.Omega.{arith}
-use native.Mathlib.Decide.{ℕ-discrete}
 use native.Mathlib.Numerals.{add-one}
-use lib.ListN.{length, getD, set, length-set}
-use lib.Seq.{getD-set-same, getD-set-other}
+use lib.ListN.{getD}
 use Rattle.words.proofs.Fold.{one-less, none-left}
 use Rattle.rules.specs.declared.Pos.{Pos}
 use Rattle.rules.specs.declared.Choice.{Choice}
 use Rattle.rules.specs.declared.Choice.the-variants.{AllBlocked}
-use Rattle.rules.specs.Steps.{furthest}
+use Rattle.rules.specs.Steps.{furthest, posOf}
 use Rattle.choice.specs.declared.RegPos.{RegPos}
-use Rattle.choice.specs.Row.{posIn, better, noEntry, entryAt, furthestEntry, Entries}
+use Rattle.choice.specs.Row.{posIn, better, nearerOf, isNever, noEntry, entryAt, furthestEntry}
+use Rattle.choice.proofs.FurthestLaws.{Weighed, weighed-first, weighed-next, Scanned, scanned-never}
 
 -- what is left of the scan from i on, with the best so far, is the whole scan
-pub record Reading (es : List RegPos) (scratch count : ℕ) (best : Choice) (i : ℕ) : Type 0 where
-  pub is : furthestEntry es scratch i (count - i) best ≡ furthestEntry es scratch 0 count AllBlocked
-  pub upto : i ≤ count
+pub record Reading (es : List RegPos) (scratch count : ℕ) (start best : Choice) (i : ℕ) : Type 0 where
+  pub is : furthestEntry es scratch i (count - i) best ≡ furthestEntry es scratch 0 count start
 
-pub reading-starts : (es : List RegPos) (scratch count : ℕ) → Reading es scratch count AllBlocked 0
-reading-starts es scratch count = record { is = let e : count - 0 ≡ count = omega arith in rw e; upto = omega arith }
+pub reading-starts : (es : List RegPos) (scratch count : ℕ) (start : Choice) → Reading es scratch count start start 0
+reading-starts es scratch count start = record { is = let e : count - 0 ≡ count = omega arith in rw e }
 
-module _ {es : List RegPos} {scratch count : ℕ} {best : Choice} {i : ℕ} (s : Reading es scratch count best i) where
-  pub reading-more : (best′ : Choice) → best′ ≡ better scratch best (getD es i noEntry .reg) (getD es i noEntry .pos) → i < count → Reading es scratch count best′ (i + 1)
+module _ {es : List RegPos} {scratch count : ℕ} {start best : Choice} {i : ℕ} (s : Reading es scratch count start best i) where
+  pub reading-more : (best′ : Choice) → best′ ≡ better scratch best (getD es i noEntry .reg) (getD es i noEntry .pos) → i < count → Reading es scratch count start best′ (i + 1)
   unfolding furthestEntry
-  reading-more best′ e h = record { is = rw e (sym (rw (one-less i count h, add-one i)) ∙ s .is); upto = omega arith }
+  reading-more best′ e h = record { is = rw e (sym (rw (one-less i count h, add-one i)) ∙ s .is) }
 
-  pub reading-ends : count ≤ i → best ≡ furthestEntry es scratch 0 count AllBlocked
+  pub reading-ends : count ≤ i → best ≡ furthestEntry es scratch 0 count start
   unfolding furthestEntry
   reading-ends h = sym (rw (none-left i count h) refl) ∙ s .is
 
--- the registers before i are listed
-pub record Listing (row : List Pos) (first count : ℕ) (es : List RegPos) (i : ℕ) : Type 0 where
-  pub is : (j : ℕ) → j < i → getD es j noEntry ≡ entryAt row (first + j)
-  pub long : length es ≡ 64
-  pub upto : i ≤ count
+-- four entries: of the register r and of the three after it, or of the last where there are none
+module _ (row : List Pos) (scratch first count stop r : ℕ) (best : Choice) (s : Scanned row scratch first count stop r best) (h : r < stop)
+    (r1 r2 r3 : ℕ) (e1 : r1 ≡ nearerOf (r + 1) (stop - 1)) (e2 : r2 ≡ nearerOf (r + 2) (stop - 1)) (e3 : r3 ≡ nearerOf (r + 3) (stop - 1))
+    (best′ : Choice) (e : best′ ≡ furthestEntry (entryAt row r ∷ entryAt row r1 ∷ entryAt row r2 ∷ entryAt row r3 ∷ []) scratch 0 4 best) where
+  -- they take the scan over the row four registers on
+  pub scanned-more : Scanned row scratch first count stop (r + 4) best′
+  unfolding furthestEntry
+  scanned-more =
+      let w : Weighed (posIn row) scratch stop (furthest (posIn row) scratch first count AllBlocked) (r + 1) (better scratch best r (posIn row r)) = weighed-first (posIn row) scratch stop r best _ h (s .is) in
+      record { is = rw e (weighed-next (weighed-next (weighed-next w r1 e1 (r + 2) (omega arith)) r2 e2 (r + 3) (omega arith)) r3 e3 (r + 4) (omega arith) .is) }
 
-pub listing-starts : (row : List Pos) (first count : ℕ) (es : List RegPos) → length es ≡ 64 → Listing row first count es 0
-listing-starts row first count es n = record { is = λ j l. absurd (omega arith); long = n; upto = omega arith }
-
-module _ {row : List Pos} {first count : ℕ} {es : List RegPos} {i : ℕ} (g : Listing row first count es i) where
-  pub listing-more : i < count → first + count ≤ 64 → Listing row first count (set es i (entryAt row (first + i))) (i + 1)
-  listing-more h k = record { is = λ j l. at j l (ℕ-discrete i j); long = simp length-set (g .long); upto = omega arith }
-    where
-      at : (j : ℕ) → j < i + 1 → Dec (i ≡ j) → getD (set es i (entryAt row (first + i))) j noEntry ≡ entryAt row (first + j)
-      at j l (yes q) = rw (sym q) (getD-set-same es i (entryAt row (first + i)) noEntry (omega (arith, g .long)))
-      at j l (no d) = getD-set-other es i j (entryAt row (first + i)) noEntry (λ q. d (sym q)) ∙ g .is j (omega arith)
-
-  pub listing-ends : count ≤ i → Entries row first count es
-  listing-ends h = record { is = λ j l. g .is j (omega arith) }
-
--- the scan over the entries from i on is the scan over the row from the register of i on
-scans-agree : {row : List Pos} {first count : ℕ} {es : List RegPos} → Entries row first count es → (scratch n i : ℕ) (best : Choice) → i + n ≤ count
-    → furthestEntry es scratch i n best ≡ furthest (posIn row) scratch (first + i) n best
-unfolding furthestEntry furthest better
-scans-agree e scratch zero i best h = refl
-scans-agree {first = first} {count = count} e scratch (suc n) i best h =
-    let l : i < count = omega arith in
-    let k : suc i + n ≤ count = omega arith in
-    rw (e .is i l) (scans-agree e scratch n (suc i) _ k ∙ rw (add-suc first i))
-
--- the scan over the lent entries agrees with the scan over the row
-pub entries-agree : (row : List Pos) (first count : ℕ) (es : List RegPos) (scratch : ℕ) (o : Choice) → Entries row first count es
-    → o ≡ furthestEntry es scratch 0 count AllBlocked → o ≡ furthest (posIn row) scratch first count AllBlocked
-entries-agree row first count es scratch o e h = h ∙ scans-agree e scratch count 0 AllBlocked (omega arith) ∙ rw (add-zero first)
+  -- and to its end, where the best is never
+  pub scanned-stops : (t : Bool) → t ≡ isNever (posOf best′) → t ≡ true → best′ ≡ furthest (posIn row) scratch first count AllBlocked
+  scanned-stops t f g = scanned-never scanned-more t f g

@@ -1,15 +1,15 @@
 -- Positions by register, as rows of an array: document 01, steps 2 and 4. Facts for contracts.
 use Prim.Native.Nat.{ℕ, zero, suc, _+_, _≤_, _<_}
 use mathlib.Core.Path.{_≡_}
-use mathlib.Core.Bool.{_&&_, not}
+use mathlib.Core.Bool.{Bool, true, false, _&&_, not}
 use mathlib.Core.List.{List}
 use mathlib.Core.Logic.{_⊎_}
 use lib.ListN.{getD}
-use lib.Dec.{eqb}
+use lib.Dec.{eqb, ltb}
 use Rattle.words.specs.Choose.{choose}
 use Rattle.words.specs.Packed.{registerAt, part}
 use Rattle.rules.specs.declared.Pos.{Pos}
-use Rattle.rules.specs.declared.Pos.the-variants.{Blocked}
+use Rattle.rules.specs.declared.Pos.the-variants.{Blocked, At, Never}
 use Rattle.rules.specs.declared.Choice.{Choice}
 use Rattle.rules.specs.declared.Choice.the-variants.{Take}
 use Rattle.rules.specs.Positions.{below}
@@ -38,9 +38,15 @@ unfoldable pub furthestEntry : List RegPos → ℕ → ℕ → ℕ → Choice �
 furthestEntry es scratch i zero best = best
 furthestEntry es scratch i (suc n) best = furthestEntry es scratch (suc i) n (better scratch best (getD es i noEntry .reg) (getD es i noEntry .pos))
 
--- the registers of a class in order, each with its position
-pub record Entries (row : List Pos) (first count : ℕ) (es : List RegPos) : Type 0 where
-  pub is : (j : ℕ) → j < count → getD es j noEntry ≡ entryAt row (first + j)
+-- the nearer of two registers
+abbrev pub nearerOf : ℕ → ℕ → ℕ
+nearerOf a b = choose (ltb a b) a b
+
+-- the position that none lies above
+abbrev pub isNever : Pos → Bool
+isNever Blocked = false
+isNever (At x) = false
+isNever Never = true
 
 -- a class's registers have the positions that their fragments give, the others are as they were
 pub record FixedRow (rs fs : List ℕ) (first count S end : ℕ) (row row′ : List Pos) : Type 0 where

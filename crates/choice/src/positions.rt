@@ -8,8 +8,8 @@ ghost use Prim.Native.Nat.{ℕ, _+_, _<_, _≤_};
 ghost use lib.ListN.{length};
 ghost use Rattle.rules.specs.declared.Choice.the-variants.{AllBlocked};
 ghost use Rattle.rules.specs.Positions.{below, lowerOf};
-ghost use Rattle.rules.specs.Steps.{furthest};
-ghost use Rattle.choice.specs.Row.{Entries, better, furthestEntry, posIn};
+ghost use Rattle.rules.specs.Steps.{furthest, posOf};
+ghost use Rattle.choice.specs.Row.{better, furthestEntry, isNever, nearerOf, posIn};
 
 pub fn below_of(a: Pos, b: Pos) -> bool
     ensures { λ r. ⌜ r ≡ below a b ⌝ }
@@ -75,14 +75,13 @@ fn better_of(best: Choice, e: RegPos, scratch: usize) -> Choice
     }
 }
 
-// The furthest of the first `count` of a lent slice, the first of them on ties, never scratch.
-fn furthest_in(s: &[RegPos], count: usize, scratch: usize) -> Choice
-    requires { ⌜ count ≤ length (now s) ⌝ }
-    ensures { λ o. ⌜ o ≡ furthestEntry (now (s .entry)) scratch 0 count AllBlocked ⌝ }
+// The furthest of a lent slice and the best so far, the first of them on ties, never scratch.
+fn furthest_in(s: &[RegPos], scratch: usize, start: Choice) -> Choice
+    ensures { λ o. ⌜ o ≡ furthestEntry (now (s .entry)) scratch 0 (length (now (s .entry))) start ⌝ }
 {
-    let mut best = Choice::AllBlocked;
+    let mut best = start;
     let mut i = 0;
-    while i < count {
+    while i < s.len() {
         best = better_of(best, s[i], scratch);
         i += 1;
     }
@@ -90,40 +89,71 @@ fn furthest_in(s: &[RegPos], count: usize, scratch: usize) -> Choice
 }
 
 // By value again: the proof of a function that lends structs is a walk, and with this one no caller needs another.
-fn furthest_lent(entries: [RegPos; REGISTERS], count: usize, scratch: usize) -> Choice
-    requires { ⌜ count ≤ 64 ⌝ }
-    ensures { λ o. ⌜ o ≡ furthestEntry entries scratch 0 count AllBlocked ⌝ }
+fn furthest_lent(entries: [RegPos; 4], scratch: usize, start: Choice) -> Choice
+    ensures { λ o. ⌜ o ≡ furthestEntry entries scratch 0 4 start ⌝ }
 {
-    furthest_in(&entries, count, scratch)
+    furthest_in(&entries, scratch, start)
 }
 
-// The registers of a class in order, each with its position. The entries after them are blocked.
-fn entries_of(row: [Pos; REGISTERS], first: usize, count: usize) -> [RegPos; REGISTERS]
-    requires { ⌜ first + count ≤ 64 ⌝ }
-    ensures { λ o. ⌜ Entries row first count o ⌝ }
+// `a`, where it lies before `b`.
+fn nearer(a: usize, b: usize) -> usize
+    ensures is { λ r. ⌜ r ≡ nearerOf a b ⌝ }
+    ensures inside { λ r. ⌜ r ≤ b ⌝ }
 {
-    let mut a = [RegPos {
-        reg: 0,
-        pos: Pos::Blocked,
-    }; REGISTERS];
-    let mut i = 0;
-    while i < count {
-        let r = first + i;
-        let p = row[r];
-        a[i] = RegPos {
-            reg: r as u16,
-            pos: p,
-        };
-        i += 1;
+    if a < b { a } else { b }
+}
+
+// Nothing lies above never.
+fn is_never(c: Choice) -> bool
+    ensures { λ r. ⌜ r ≡ isNever (posOf c) ⌝ }
+{
+    match c {
+        Choice::AllBlocked => false,
+        Choice::Take { register: _, pos } => match pos {
+            Pos::Blocked => false,
+            Pos::At(_) => false,
+            Pos::Never => true,
+        },
     }
-    a
 }
 
 // The furthest of a class's registers, the lowest of them on ties, never scratch.
+// Four at a time: past the last register the last one stands again, which changes nothing.
 pub fn furthest_of(row: [Pos; REGISTERS], first: usize, count: usize, scratch: usize) -> Choice
     requires { ⌜ first + count ≤ 64 ⌝ }
     ensures { λ o. ⌜ o ≡ furthest (posIn row) scratch first count AllBlocked ⌝ }
 {
-    let entries = entries_of(row, first, count);
-    furthest_lent(entries, count, scratch)
+    let mut best = Choice::AllBlocked;
+    let stop = first + count;
+    let mut r = first;
+    while r < stop {
+        let last = stop - 1;
+        let r1 = nearer(r + 1, last);
+        let r2 = nearer(r + 2, last);
+        let r3 = nearer(r + 3, last);
+        let entries = [
+            RegPos {
+                reg: r as u16,
+                pos: row[r],
+            },
+            RegPos {
+                reg: r1 as u16,
+                pos: row[r1],
+            },
+            RegPos {
+                reg: r2 as u16,
+                pos: row[r2],
+            },
+            RegPos {
+                reg: r3 as u16,
+                pos: row[r3],
+            },
+        ];
+        best = furthest_lent(entries, scratch, best);
+        if is_never(best) {
+            return best;
+        }
+        r += 4;
+    }
+    best
 }

@@ -24,9 +24,12 @@ returns c =
     let after-rule1 : tie.After-rule1 = search needs in
     broken-at _ _ 1 _ (omega arith) (omega arith) (held-none _ _) (says-1 _ _ _ (after-rule1 .rule1 .ensures .decides)) (c .if1 .taken)
 
--- places further back
+-- places of the code that lie further back, each from a later one
 abbrev to-start : tie.After-rule1 → tie.Start
 to-start c = search needs
+
+abbrev to-after-rule1 : tie.Else1 → tie.After-rule1
+to-after-rule1 c = search needs
 
 rule2-requires : tie.Need-rule2-requires
 rule2-requires c κs =
@@ -68,9 +71,6 @@ returns-3 c =
     let else1 : tie.Else1 = search needs in
     let after-rule1 : tie.After-rule1 = search needs in
     broken-at _ _ 3 _ (omega arith) (omega arith) (held-more _ _ 2 _ (held-more _ _ 1 _ (held-none _ _) (says-1 _ _ _ (after-rule1 .rule1 .ensures .decides)) (else1 .if1 .left)) (says-2 _ _ _ (after-rule2 .rule2 .ensures)) (else2 .if2 .left)) (says-3 _ _ _ (after-rule3 .rule3 .ensures)) (c .if3 .taken)
-
-abbrev to-after-rule1 : tie.Else1 → tie.After-rule1
-to-after-rule1 c = search needs
 
 last-four-requires : tie.Need-last-four-requires
 last-four-requires c κs =

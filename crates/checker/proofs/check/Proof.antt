@@ -16,9 +16,7 @@ mul-if2 : tie.Need-mul-if2
 mul-if2 c = search needs
 
 returns-2 : tie.Need-returns-2
-returns-2 c =
-    let else1 : tie.Else1 = search needs in
-    over-words _ _ (else1 .if1 .left) (c .if2 .taken)
+returns-2 c = search over-words
 
 check-tables-requires : tie.Need-check-tables-requires
 check-tables-requires c κs = search needs
@@ -27,12 +25,7 @@ enum-known-checked : tie.Need-enum-known-checked
 enum-known-checked c = search needs
 
 returns-3 : tie.Need-returns-3
-returns-3 c =
-    let after-checked : tie.After-checked = search needs in
-    let after-check-tables : tie.After-check-tables = search needs in
-    let else2 : tie.Else2 = search needs in
-    let else1 : tie.Else1 = search needs in
-    tables-refused _ _ (else1 .if1 .left) (else2 .if2 .left) _ _ (after-check-tables .check-tables .ensures) (after-checked .checked .given .1)
+returns-3 c = search tables-refused
 
 enum-told : tie.Need-enum-told
 enum-told c = search needs
@@ -50,13 +43,7 @@ answer-requires : tie.Need-answer-requires
 answer-requires c κs = search needs
 
 returns-4 : tie.Need-returns-4
-returns-4 c =
-    let after-judge : tie.After-judge = search needs in
-    let after-enum-told : tie.After-enum-told = search needs in
-    let after-check-tables : tie.After-check-tables = search needs in
-    let else2 : tie.Else2 = search needs in
-    let else1 : tie.Else1 = search needs in
-    answered _ _ (else1 .if1 .left) (else2 .if2 .left) (after-check-tables .check-tables .result) (after-judge .judge .result) (c .answer .result) (after-check-tables .check-tables .ensures) (after-enum-told .enum-told .given .1) (after-judge .judge .ensures) (c .answer .ensures)
+returns-4 c = search answered
 
 pub check-spec : {M : Type 1} → statement M
 check-spec =

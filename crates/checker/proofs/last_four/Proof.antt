@@ -18,9 +18,24 @@ rule4-requires c κs =
 same-length : tie.Need-same-length
 same-length c = search needs
 
--- places further back
+-- places of the code that lie further back, each from a later one
 abbrev to-start : tie.After-rule4 → tie.Start
 to-start c = search needs
+
+abbrev to-start′ : tie.After-disown → tie.Start
+to-start′ c = search needs
+
+abbrev to-else1 : tie.After-rule5 → tie.Else1
+to-else1 c = search needs
+
+abbrev to-after-rule4 : tie.Else1 → tie.After-rule4
+to-after-rule4 c = search needs
+
+abbrev to-else2 : tie.After-rule6 → tie.Else2
+to-else2 c = search needs
+
+abbrev to-after-rule5 : tie.Else2 → tie.After-rule5
+to-after-rule5 c = search needs
 
 returns : tie.Need-returns
 returns c =
@@ -47,9 +62,6 @@ returns-2 c =
 disown-requires : tie.Need-disown-requires
 disown-requires c κs = search needs
 
-abbrev to-start′ : tie.After-disown → tie.Start
-to-start′ c = search needs
-
 rule6-requires : tie.Need-rule6-requires
 rule6-requires c κs =
     let after-disown : tie.After-disown = search needs in
@@ -58,12 +70,6 @@ rule6-requires c κs =
 
 same-length-3 : tie.Need-same-length-3
 same-length-3 c = search needs
-
-abbrev to-else1 : tie.After-rule5 → tie.Else1
-to-else1 c = search needs
-
-abbrev to-after-rule4 : tie.Else1 → tie.After-rule4
-to-after-rule4 c = search needs
 
 returns-3 : tie.Need-returns-3
 returns-3 c =
@@ -82,12 +88,6 @@ rule7-requires c κs =
 
 same-length-4 : tie.Need-same-length-4
 same-length-4 c = search needs
-
-abbrev to-else2 : tie.After-rule6 → tie.Else2
-to-else2 c = search needs
-
-abbrev to-after-rule5 : tie.Else2 → tie.After-rule5
-to-after-rule5 c = search needs
 
 returns-4 : tie.Need-returns-4
 returns-4 c =

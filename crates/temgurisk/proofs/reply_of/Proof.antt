@@ -1,11 +1,16 @@
 -- `temgurisk::reply_of` meets its contract: each answer has the four words of its row.
 -- Assumes nothing.
-use Prim.Native.Nat.{_-_}
-use mathlib.Core.Path.{_∙_, ap, sym}
+use mathlib.Core.Path.{_≡_, _∙_, ap, sym}
+use Rattle.rules.specs.declared.Answer.{Answer}
 use Rattle.temgurisk.specs.Replies.{replyOf}
+use Rattle.temgurisk.specs.declared.Reply.{Reply}
 use borrow.Author.Needs.{needs}
 use Rattle.temgurisk.proofs.reply_of.Statement.{statement}
 use Rattle.temgurisk.proofs.reply_of.Tie as tie
+
+-- the reply to an answer that is known to be v
+as-told : (a v : Answer) (r : Reply) → a ≡ v → r ≡ replyOf v → r ≡ replyOf a
+as-told a v r e h = h ∙ ap replyOf (sym e)
 
 enum-known-a : tie.Need-enum-known-a
 enum-known-a c = search needs
@@ -119,46 +124,46 @@ refusal-requires-13 : tie.Need-refusal-requires-13
 refusal-requires-13 c κs = search needs
 
 returns : tie.Need-returns
-returns c = ap replyOf (sym (c .before .a .given .1))
+returns c = search as-told
 
 returns-2 : tie.Need-returns-2
-returns-2 c = c .refusal .ensures ∙ ap replyOf (sym (c .before .enum-told .given .1))
+returns-2 c = search as-told
 
 returns-3 : tie.Need-returns-3
-returns-3 c = c .refusal2 .ensures ∙ ap replyOf (sym (c .before .enum-told2 .given .1))
+returns-3 c = search as-told
 
 returns-4 : tie.Need-returns-4
-returns-4 c = c .refusal3 .ensures ∙ ap replyOf (sym (c .before .before .a2 .given .1))
+returns-4 c = search as-told
 
 returns-5 : tie.Need-returns-5
-returns-5 c = c .refusal4 .ensures ∙ ap replyOf (sym (c .before .before .a3 .given .1))
+returns-5 c = search as-told
 
 returns-6 : tie.Need-returns-6
-returns-6 c = c .refusal5 .ensures ∙ ap replyOf (sym (c .before .before .a4 .given .1))
+returns-6 c = search as-told
 
 returns-7 : tie.Need-returns-7
-returns-7 c = c .refusal6 .ensures ∙ ap replyOf (sym (c .before .before .a5 .given .1))
+returns-7 c = search as-told
 
 returns-8 : tie.Need-returns-8
-returns-8 c = c .refusal7 .ensures ∙ ap replyOf (sym (c .before .before .a6 .given .1))
+returns-8 c = search as-told
 
 returns-9 : tie.Need-returns-9
-returns-9 c = c .refusal8 .ensures ∙ ap replyOf (sym (c .before .enum-told3 .given .1))
+returns-9 c = search as-told
 
 returns-10 : tie.Need-returns-10
-returns-10 c = c .refusal9 .ensures ∙ ap replyOf (sym (c .before .before .a7 .given .1))
+returns-10 c = search as-told
 
 returns-11 : tie.Need-returns-11
-returns-11 c = c .refusal10 .ensures ∙ ap replyOf (sym (c .before .before .a8 .given .1))
+returns-11 c = search as-told
 
 returns-12 : tie.Need-returns-12
-returns-12 c = c .refusal11 .ensures ∙ ap replyOf (sym (c .before .before .a9 .given .1))
+returns-12 c = search as-told
 
 returns-13 : tie.Need-returns-13
-returns-13 c = c .refusal12 .ensures ∙ ap replyOf (sym (c .before .before .a10 .given .1))
+returns-13 c = search as-told
 
 returns-14 : tie.Need-returns-14
-returns-14 c = c .refusal13 .ensures ∙ ap replyOf (sym (c .before .before .a11 .given .1))
+returns-14 c = search as-told
 
 pub reply-of-spec : {M : Type 1} → statement M
 reply-of-spec =

@@ -14,7 +14,7 @@ returns c = search rule1-loose
 link-requires : tie.Need-link-requires
 link-requires c κs = search needs
 
--- places further back
+-- places of the code that lie further back, each from a later one
 abbrev to-start : tie.After-loose → tie.Start
 to-start c = search needs
 

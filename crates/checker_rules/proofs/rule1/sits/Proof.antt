@@ -32,15 +32,9 @@ interval-at-requires c κs = search needs
 returns-5 : tie.Need-returns-5
 returns-5 c = search sits-from
 
--- places further back
+-- places of the code that lie further back, each from a later one
 abbrev to-after-record-at : tie.After-interval-at → tie.After-record-at
 to-after-record-at c = search needs
-
-returns-6 : tie.Need-returns-6
-returns-6 c =
-    let after-interval-at : tie.After-interval-at = search needs in
-    let after-record-at = to-after-record-at after-interval-at in
-    sits-to _ _ _ _ (after-record-at .record-at .ensures) _ (after-interval-at .interval-at .ensures) (c .if6 .taken)
 
 abbrev to-else2 : tie.Else3 → tie.Else2
 to-else2 c = search needs
@@ -53,6 +47,12 @@ to-after-known c = search needs
 
 abbrev to-after-record-at′ : tie.After-known → tie.After-record-at
 to-after-record-at′ c = search needs
+
+returns-6 : tie.Need-returns-6
+returns-6 c =
+    let after-interval-at : tie.After-interval-at = search needs in
+    let after-record-at = to-after-record-at after-interval-at in
+    sits-to _ _ _ _ (after-record-at .record-at .ensures) _ (after-interval-at .interval-at .ensures) (c .if6 .taken)
 
 returns-7 : tie.Need-returns-7
 returns-7 c =

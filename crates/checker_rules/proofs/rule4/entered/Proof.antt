@@ -38,7 +38,7 @@ record-at-requires c κs =
     let start : tie.Start Inv-loop μ-loop = search needs in
     omega (arith, due _ _ _ _ _ (at-loop .loop .inv .least) (after-turn .turn .given .1) .real, start .pre .0 .there)
 
--- places further back
+-- places of the code that lie further back, each from a later one
 abbrev to-start : tie.At-loop Inv-loop μ-loop → tie.Start Inv-loop μ-loop
 to-start c = search needs
 

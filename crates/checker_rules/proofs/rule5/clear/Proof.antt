@@ -29,7 +29,7 @@ cast-meets c = search needs
 end-of-requires : tie.Need-end-of-requires
 end-of-requires c κs = search needs
 
--- places further back
+-- places of the code that lie further back, each from a later one
 abbrev to-start : tie.After-record-at → tie.Start
 to-start c = search needs
 

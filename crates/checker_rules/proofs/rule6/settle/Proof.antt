@@ -29,9 +29,27 @@ size-of-requires c κs = search needs
 rem-if2 : tie.Need-rem-if2
 rem-if2 c = search needs
 
--- places further back
+-- places of the code that lie further back, each from a later one
 abbrev to-start : tie.After-seated → tie.Start
 to-start c = search needs
+
+abbrev to-start′ : tie.After-struct-known → tie.Start
+to-start′ c = search needs
+
+abbrev to-after-seated : tie.Else1 → tie.After-seated
+to-after-seated c = search needs
+
+abbrev to-after-struct-known : tie.After-size-of → tie.After-struct-known
+to-after-struct-known c = search needs
+
+abbrev to-after-size-of : tie.Else2 → tie.After-size-of
+to-after-size-of c = search needs
+
+abbrev to-after-interval-at : tie.After-size-of → tie.After-interval-at
+to-after-interval-at c = search needs
+
+abbrev to-else1 : tie.After-interval-at → tie.Else1
+to-else1 c = search needs
 
 returns-2 : tie.Need-returns-2
 returns-2 c =
@@ -84,9 +102,6 @@ add-e c = search needs
 cast-b : tie.Need-cast-b
 cast-b c = search needs
 
-abbrev to-start′ : tie.After-struct-known → tie.Start
-to-start′ c = search needs
-
 unowned-requires : tie.Need-unowned-requires
 unowned-requires c κs =
     let after-size-of : tie.After-size-of = search needs in
@@ -96,9 +111,6 @@ unowned-requires c κs =
 
 same-length : tie.Need-same-length
 same-length c = search needs
-
-abbrev to-after-seated : tie.Else1 → tie.After-seated
-to-after-seated c = search needs
 
 returns-5 : tie.Need-returns-5
 returns-5 c =
@@ -119,9 +131,6 @@ cast-own c =
     let after-seated : tie.After-seated = search needs in
     let start = to-start after-seated in
     omega (arith, after-seated .seated .ensures .names, start .pre .0 .2)
-
-abbrev to-after-struct-known : tie.After-size-of → tie.After-struct-known
-to-after-struct-known c = search needs
 
 own-requires : tie.Need-own-requires
 own-requires c κs =
@@ -147,15 +156,6 @@ same-length-2 c = search needs
 
 same-length-3 : tie.Need-same-length-3
 same-length-3 c = search needs
-
-abbrev to-after-size-of : tie.Else2 → tie.After-size-of
-to-after-size-of c = search needs
-
-abbrev to-after-interval-at : tie.After-size-of → tie.After-interval-at
-to-after-interval-at c = search needs
-
-abbrev to-else1 : tie.After-interval-at → tie.Else1
-to-else1 c = search needs
 
 returns-6 : tie.Need-returns-6
 returns-6 c =

@@ -33,7 +33,7 @@ cast-safe-in-2 c = search needs
 end-of-requires-2 : tie.Need-end-of-requires-2
 end-of-requires-2 c κs = search needs
 
--- places further back
+-- places of the code that lie further back, each from a later one
 abbrev to-after-seated : tie.After-interval-at → tie.After-seated
 to-after-seated c = search needs
 

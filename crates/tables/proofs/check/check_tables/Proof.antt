@@ -54,7 +54,13 @@ enum-told-4 : tie.Need-enum-told-4
 enum-told-4 c = search needs
 
 bad-safepoint-requires : tie.Need-bad-safepoint-requires
-bad-safepoint-requires c κs = (placed _ _ _ _ _ _ _ (c .before .before .before .before .before .bad-interval .ensures) (c .before .before .before .enum-told3 .given .1) (c .before .before .bad-mention .ensures) (c .enum-told4 .given .1), search few-safepoints)
+bad-safepoint-requires c κs = (
+  (let i : tie.After-bad-interval = search needs in
+      let t : tie.After-enum-told3 = search needs in
+      let m : tie.After-bad-mention = search needs in
+      placed _ _ _ _ _ _ _ (i .bad-interval .ensures) (t .enum-told3 .given .1) (m .bad-mention .ensures) (c .enum-told4 .given .1)),
+  search few-safepoints,
+)
 
 enum-known-k-4 : tie.Need-enum-known-k-4
 enum-known-k-4 c = search needs

@@ -21,7 +21,7 @@ instruction-at-requires-2 : tie.Need-instruction-at-requires-2
 instruction-at-requires-2 c κs = search needs
 
 returns-2 : tie.Need-returns-2
-returns-2 c = let a = c .before .before .before .before .before .args in search (mention-rises (a .r) (a .mentions .now) (a .j))
+returns-2 c = let s : tie.Start = search needs in let a = s .args in search (mention-rises (a .r) (a .mentions .now) (a .j))
 
 pub mention-rises-spec : {M : Type 1} → statement M
 mention-rises-spec =

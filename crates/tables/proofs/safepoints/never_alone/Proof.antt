@@ -15,10 +15,10 @@ mul-lower : tie.Need-mul-lower
 mul-lower c = search needs
 
 lower-requires : tie.Need-lower-requires
-lower-requires c κs = search (words-rise, c .before .before .shared-slice-known .given)
+lower-requires c κs = let k : tie.After-shared-slice-known = search needs in search (words-rise, k .shared-slice-known .given)
 
 returns : tie.Need-returns
-returns c = search (none-there, c .before .before .before .before .shared-slice-known .given)
+returns c = let k : tie.After-shared-slice-known = search needs in search (none-there, k .shared-slice-known .given)
 
 mention-at-requires : tie.Need-mention-at-requires
 mention-at-requires c κs = search needs
@@ -27,7 +27,7 @@ cast-result : tie.Need-cast-result
 cast-result c = search needs
 
 returns-2 : tie.Need-returns-2
-returns-2 c = search (one-there, c .before .before .before .before .before .before .before .before .shared-slice-known .given)
+returns-2 c = let k : tie.After-shared-slice-known = search needs in search (one-there, k .shared-slice-known .given)
 
 pub never-alone-spec : {M : Type 1} → statement M
 never-alone-spec =

@@ -27,7 +27,7 @@ shared-slice-read-result-2 : tie.Need-shared-slice-read-result-2
 shared-slice-read-result-2 c = search needs
 
 returns-2 : tie.Need-returns-2
-returns-2 c = let a = c .before .before .before .before .args in search (safepoint-rises (a .safepoints .now) (a .r) (a .j))
+returns-2 c = let s : tie.Start = search needs in let a = s .args in search (safepoint-rises (a .safepoints .now) (a .r) (a .j))
 
 pub safepoint-rises-spec : {M : Type 1} → statement M
 safepoint-rises-spec =

@@ -35,51 +35,49 @@ fn count_one(tally: &mut [u32], kind: usize) {
     }
 }
 
-// The kind of the answer with the bits of a word flipped; the word is put back.
-fn flipped(
-    instructions: u32,
-    classes: &[u32],
-    registers: &[u32],
-    fragments: &[u32],
-    intervals: &[u32],
-    mentions: &[u32],
-    safepoints: &[u32],
-    words: &mut [u32],
-    count: u32,
-    total: u32,
-    i: usize,
-    mask: u32,
-) -> usize {
+// A claim for the tables of the case `each-rule` in standard input.
+fn claimed(words: &[u32], count: u32, total: u32) -> Reply {
+    calls::checked(
+        16,
+        &[0x38100],
+        &[1, 0x10000, 0x10000],
+        &[0x40005],
+        &[
+            0x10000000,
+            0x10011,
+            3,
+            2,
+            0,
+            0x19,
+            0x30003,
+            0x20000,
+            0,
+            0x1c001d,
+            0x60001,
+            0x20000,
+        ],
+        &[1, 0x80004, 0x100004, 4, 0x20004, 0x180004, 0x1c0001],
+        &[2, 6],
+        words,
+        count,
+        total,
+    )
+}
+
+// The kind of the answer with bits of a word flipped; the word is put back.
+fn flipped(words: &mut [u32], count: u32, total: u32, i: usize, mask: u32) -> usize {
     if words.len() <= i {
         return OTHER;
     }
     let w = words[i];
     words[i] = w ^ mask;
-    let r = calls::checked(
-        instructions,
-        classes,
-        registers,
-        fragments,
-        intervals,
-        mentions,
-        safepoints,
-        &words[..],
-        count,
-        total,
-    );
+    let r = claimed(&words[..], count, total);
     words[i] = w;
     kind_of(r)
 }
 
 // A word's flips, by a mask that moves up.
 fn flips(
-    instructions: u32,
-    classes: &[u32],
-    registers: &[u32],
-    fragments: &[u32],
-    intervals: &[u32],
-    mentions: &[u32],
-    safepoints: &[u32],
     words: &mut [u32],
     count: u32,
     total: u32,
@@ -91,20 +89,7 @@ fn flips(
     let mut mask = first;
     let mut b = 0;
     while b < masks {
-        let kind = flipped(
-            instructions,
-            classes,
-            registers,
-            fragments,
-            intervals,
-            mentions,
-            safepoints,
-            words,
-            count,
-            total,
-            i,
-            mask,
-        );
+        let kind = flipped(words, count, total, i, mask);
         count_one(tally, kind);
         mask = num::wrapping_add_u32(mask, mask);
         b += 1;
@@ -112,46 +97,53 @@ fn flips(
 }
 
 // All flips of a claim's words, and how many of them get each kind of answer.
-fn all_flips(
-    label: &[u8],
-    instructions: u32,
-    classes: &[u32],
-    registers: &[u32],
-    fragments: &[u32],
-    intervals: &[u32],
-    mentions: &[u32],
-    safepoints: &[u32],
-    words: &mut [u32],
-    count: u32,
-    total: u32,
-    first: u32,
-    masks: usize,
-) {
+fn all_flips(label: &[u8], words: &mut [u32], count: u32, total: u32, first: u32, masks: usize) {
     let n = count as usize * RECORD_WORDS;
     let mut tally = [0u32; KINDS];
     let mut i = 0;
     while i < n {
-        flips(
-            instructions,
-            classes,
-            registers,
-            fragments,
-            intervals,
-            mentions,
-            safepoints,
-            words,
-            count,
-            total,
-            i,
-            first,
-            masks,
-            &mut tally,
-        );
+        flips(words, count, total, i, first, masks, &mut tally);
         i += 1;
     }
     print::text(label);
     print::numbers(&tally);
     print::text(b"\n");
+}
+
+// Every flip of a bit, and of two neighbouring bits, so that a register becomes a slot. The words are the result that the line of `each-rule` shows.
+pub(crate) fn each_rule() {
+    let mut words = [
+        0x40000000,
+        0x10001,
+        0x40040001,
+        0x19,
+        0x40080000,
+        0x1c001d,
+        0x80000000,
+        0x20007,
+        0x40000000,
+        0x80008,
+        0x80000000,
+        0x9000f,
+        0x40000000,
+        0x100011,
+    ];
+    all_flips(
+        b"each-rule, a bit flipped: accepted, by rule 1 to 7, other:",
+        &mut words,
+        7,
+        1,
+        1,
+        BITS,
+    );
+    all_flips(
+        b"each-rule, two bits flipped: accepted, by rule 1 to 7, other:",
+        &mut words,
+        7,
+        1,
+        3,
+        BITS - 1,
+    );
 }
 
 // The first record once more, behind the last, where there is room.
@@ -281,61 +273,4 @@ pub(crate) fn copies(
         );
         copy += 1;
     }
-}
-
-// Every flip of a bit, and of two neighbouring bits (so that a register becomes a slot); then the other copies.
-pub(crate) fn small(
-    instructions: u32,
-    classes: &[u32],
-    registers: &[u32],
-    fragments: &[u32],
-    intervals: &[u32],
-    mentions: &[u32],
-    safepoints: &[u32],
-    words: &mut [u32],
-    count: u32,
-    total: u32,
-) {
-    all_flips(
-        b"  a bit flipped: accepted, by rule 1 to 7, other:",
-        instructions,
-        classes,
-        registers,
-        fragments,
-        intervals,
-        mentions,
-        safepoints,
-        words,
-        count,
-        total,
-        1,
-        BITS,
-    );
-    all_flips(
-        b"  two bits flipped: accepted, by rule 1 to 7, other:",
-        instructions,
-        classes,
-        registers,
-        fragments,
-        intervals,
-        mentions,
-        safepoints,
-        words,
-        count,
-        total,
-        3,
-        BITS - 1,
-    );
-    copies(
-        instructions,
-        classes,
-        registers,
-        fragments,
-        intervals,
-        mentions,
-        safepoints,
-        words,
-        count,
-        total,
-    );
 }

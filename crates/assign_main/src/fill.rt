@@ -43,7 +43,7 @@ pub(crate) fn part<'t>(t: &'t [u32], n: usize) -> &'t [u32] {
     &t[..n]
 }
 
-// The bytes from..to, or none where there are no such.
+// The bytes from..to, or all where there are no such.
 pub(crate) fn bytes<'t>(t: &'t [u8], from: usize, to: usize) -> &'t [u8] {
     if from <= to && to <= t.len() {
         return &t[from..to];

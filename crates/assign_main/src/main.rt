@@ -10,6 +10,7 @@ fn main() {
     let mut space = io::large_buffer();
     let n = io::read_full(0, &mut space);
     small::cases(&space[..n]);
+    damage::each_rule();
     limits::instructions();
     limits::classes();
     limits::registers();

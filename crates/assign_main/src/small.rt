@@ -104,7 +104,7 @@ fn judged(
         work,
     );
     if let Claim::Words(n) = claim {
-        damage::small(
+        damage::copies(
             options.instructions,
             classes,
             registers,
@@ -119,7 +119,7 @@ fn judged(
     }
 }
 
-// .. with the room that it asks for.
+// .. with the room that it asks for. Where there is less, no line is written.
 fn roomed(
     label: &[u8],
     options: Options,

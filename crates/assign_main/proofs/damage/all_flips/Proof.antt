@@ -7,11 +7,11 @@ use Rattle.assign_main.proofs.damage.all_flips.Statement.{statement}
 use Rattle.assign_main.proofs.damage.all_flips.Tie as tie
 
 abbrev Inv-loop : tie.InvT-loop
-Inv-loop label instructions classes registers fragments intervals mentions safepoints words₀ count total first masks n tally₀ i₀ t17 words tally i =
+Inv-loop label words₀ count total first masks n tally₀ i₀ t17 words tally i =
     (length words ≡ length words₀) × (length tally ≡ 9) × (i ≤ n)
 
 abbrev μ-loop : tie.MeasureT-loop
-μ-loop label instructions classes registers fragments intervals mentions safepoints words₀ count total first masks n tally₀ i₀ t17 words tally i =
+μ-loop label words₀ count total first masks n tally₀ i₀ t17 words tally i =
     n - i
 
 mul-n : tie.Need-mul-n Inv-loop μ-loop

@@ -7,11 +7,11 @@ use Rattle.assign_main.proofs.damage.flips.Statement.{statement}
 use Rattle.assign_main.proofs.damage.flips.Tie as tie
 
 abbrev Inv-loop : tie.InvT-loop
-Inv-loop instructions classes registers fragments intervals mentions safepoints words₀ count total i first masks tally₀ mask₀ b₀ words tally mask b =
+Inv-loop words₀ count total i first masks tally₀ mask₀ b₀ words tally mask b =
     (length words ≡ length words₀) × (length tally ≡ length tally₀) × (b ≤ masks)
 
 abbrev μ-loop : tie.MeasureT-loop
-μ-loop instructions classes registers fragments intervals mentions safepoints words₀ count total i first masks tally₀ mask₀ b₀ words tally mask b =
+μ-loop words₀ count total i first masks tally₀ mask₀ b₀ words tally mask b =
     masks - b
 
 loop-holds : tie.Need-loop-holds Inv-loop μ-loop

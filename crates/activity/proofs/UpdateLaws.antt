@@ -1,7 +1,7 @@
 -- The loops of the tracker. Assumes nothing.
 use mathlib.Core.Path.{_≡_, refl, sym, _∙_}
 use mathlib.Core.List.{List}
-use Prim.Native.Nat.{ℕ, suc, _+_, _-_, _≤_, _<_}
+use Prim.Native.Nat.{ℕ, _+_, _-_, _≤_, _<_}
 use native.Mathlib.Omega.{arith}
 use native.Mathlib.Numerals.{add-one}
 use lib.ListN.{length, getD}
@@ -10,17 +10,12 @@ use borrow.Author.Tests.{lt-ltb, le-ltb}
 use Rattle.words.specs.declared.Range.{Range}
 use Rattle.words.specs.declared.Fragment.{Fragment}
 use Rattle.words.specs.Packed.{rangeIn, fragmentIn}
+use Rattle.words.proofs.Fold.{one-less, none-left}
 use Rattle.activity.specs.declared.Tracker.{Tracker}
 use Rattle.activity.specs.Fixed.{stopOf, lastAt}
 use Rattle.activity.specs.Cursors.{cursor, withActive, withCursor, moved, Moved, advancedFrom, Ready, freshFrom, freshOf, noneActive}
 
 -- i is one of what is left before n
-one-less : (i n : ℕ) → i < n → n - i ≡ suc (n - (i + 1))
-one-less i n h = omega arith
-
-none-left : (i n : ℕ) → n ≤ i → n - i ≡ 0
-none-left i n h = omega arith
-
 -- one cursor on its way
 pub record Moving (fs : List ℕ) (S from stop f : ℕ) : Type 0 where
   pub is : moved fs S f (stop - f) ≡ moved fs S from (stop - from)

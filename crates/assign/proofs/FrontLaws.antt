@@ -58,56 +58,40 @@ starts cap ws ws₁ ws₂ c d u q h p g e =
     }
 
 -- ---- the front
-module _ (cap : ℕ) (cs rs fs is ws ws′ : List ℕ) (c : Counts) (t : Tracker) (r : Start) (g : Turning cap cs rs fs is ws c t) (b : Started cap ws ws′ c r) where
+module _ (cap : ℕ) (cs is ws ws′ : List ℕ) (c : Counts) (r : Start) (g : Turning cap cs is ws c) (b : Started cap ws ws′ c r) where
   -- its interval has a row, its class an entry
   pub front-row : r .interval < intervalCount is
   front-row = omega (arith, b .owner, g .rows)
 
   pub front-class : (i : ℕ) → i ≡ intervalAt is (r .interval) .class → i < length cs
-  front-class i e = omega (arith, e, g .tables .class (r .interval) front-row)
+  front-class i e = omega (arith, e, g .class (r .interval) front-row)
 
-  pub front-active : Fits w16 (r .counts .active)
-  front-active = omega (arith, b .ready .held, b .ready .records, b .ready .most)
-
-  -- the pop is not before the last start
-  later : g .last ≤ r .start
-  later =
-      let m : List·Memᴰ (b .x) (stateOf cap ws c .queue) = rw (b .first) (List·Memᴰ·head refl) in
-      let same : stateOf cap ws′ (r .counts) .pieces ≡ stateOf cap ws c .pieces = ap (λ (s : State). s .pieces) (b .is) ∙ dropped-pieces (withQueue (b .xs) (stateOf cap ws c)) _ in
-      let e : r .start ≡ piece (stateOf cap ws c) (recordOfKey (b .x)) .start = b .start ∙ ap (λ (ps : List Piece). getD ps (r .record) noPiece .start) same ∙ ap (λ (k : ℕ). piece (stateOf cap ws c) k .start) (b .names) in
-      omega (arith, e, g .ahead (b .x) m)
-
-  module _ (i : ℕ) (k : Class) (e : i ≡ intervalAt is (r .interval) .class) (d : k ≡ classAt cs i) where
-    class-inside : k .first + k .count ≤ length rs
-    class-inside = rw d (g .tables .inside i (front-class i e))
-
-    pub front-ready : cursors.Ready rs fs t (k .first) (k .count)
-    front-ready = ready (g .tables .fixed) (k .first) (k .count) class-inside (g .cursors)
-
-    pub fronts : (u : Tracker) → u ≡ advanced rs fs t (k .first) (k .count) (r .start) (r .counts .active)
-        → Fronted cap cs rs fs is ws ws′ c (record { «record» = r .record; index = i; class = k; counts = r .counts; tracker = u })
-    fronts u f =
-        record {
-          x = b .x;
-          xs = b .xs;
-          first = b .first;
-          names = b .names;
-          becomes = b .is;
-          ready = b .ready;
-          inside = b .inside;
-          rows = b .intervals ∙ g .rows;
-          room = b .room;
-          class = d ∙ ap (classAt cs) (e ∙ ap (λ (v : ℕ). intervalAt is v .class) (b .interval));
-          facing = rw (f, ← b .start) (updated-facing (g .tables .fixed) (k .first) (k .count) class-inside (g .cursors) (r .start) (r .counts .active) later);
-          index = omega (arith, front-class i e, g .tables .few);
-          long = b .long;
-        }
+  pub fronts : (i : ℕ) (k : Class) → i ≡ intervalAt is (r .interval) .class → k ≡ classAt cs i
+      → Fronted cap cs is ws ws′ c (record { «record» = r .record; index = i; class = k; start = r .start; counts = r .counts })
+  fronts i k e d =
+      record {
+        x = b .x;
+        xs = b .xs;
+        first = b .first;
+        names = b .names;
+        becomes = b .is;
+        ready = b .ready;
+        inside = b .inside;
+        rows = b .intervals ∙ g .rows;
+        room = b .room;
+        start = b .start;
+        class = d ∙ ap (classAt cs) (e ∙ ap (λ (v : ℕ). intervalAt is v .class) (b .interval));
+        listed = front-class i e;
+        kind = d;
+        index = omega (arith, front-class i e, g .few);
+        long = b .long;
+      }
 
 -- ---- the row
 module _ (cap : ℕ) (rs fs ws : List ℕ) (f : Front) (q : Piece) (e : Got cap ws (f .counts) (f .record) q) where
   -- the piece that is read is the front's
-  pub row-faces : Faces cap rs fs ws f → Facing rs fs (q .start) (f .class .first) (f .class .count) (f .tracker)
-  row-faces h = rw (e .is) (h .facing)
+  pub row-faces : (t : Tracker) → Faces cap rs fs ws f t → Facing rs fs (q .start) (f .class .first) (f .class .count) t
+  row-faces t h = rw (e .is) (h .facing)
 
   pub row-free : (o : List Pos) → FreeRow rs fs (stateOf cap ws (f .counts)) q (f .class .first) (f .class .count) o
       → FreeRow rs fs (stateOf cap ws (f .counts)) (piece (stateOf cap ws (f .counts)) (f .record)) (f .class .first) (f .class .count) o

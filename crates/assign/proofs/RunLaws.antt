@@ -29,8 +29,8 @@ use Rattle.store.specs.declared.Counts.{Counts}
 use Rattle.store.specs.StateOf.{stateOf, Ready}
 use Rattle.store.proofs.StateLaws.{queue-empty}
 use Rattle.activity.specs.declared.Tracker.{Tracker}
-use Rattle.activity.specs.Cursors.{Cursors, freshOf}
-use Rattle.activity.proofs.CursorLaws.{fixed-tables, fresh-cursors}
+use Rattle.activity.specs.Cursors.{Cursors, Facing, freshOf}
+use Rattle.activity.proofs.CursorLaws.{fixed-tables, fresh-cursors, ready, updated-facing}
 use Rattle.choice.specs.Holding.{FreeRow}
 use Rattle.split.specs.declared.Turn.{Turn}
 use Rattle.split.specs.declared.Turn.the-variants.{On, Off}
@@ -41,7 +41,7 @@ use Rattle.tables.specs.Given.{tables}
 use Rattle.assign.specs.declared.Front.{Front}
 use Rattle.assign.specs.Calling.{Checked, Begun, Ran, Ends}
 use Rattle.assign.specs.Calling as calling
-use Rattle.assign.specs.Looping.{Turning, Fronted, Faces, Settles, settled}
+use Rattle.assign.specs.Looping.{Turning, Fronted, Trackable, trackedTo, Faces, Settles, settled}
 use Rattle.assign.proofs.FrontLaws.{dropped-pieces}
 use Rattle.assign.proofs.SettleLaws.{did-stays}
 
@@ -108,17 +108,10 @@ module _ (n : ℕ) (m : Mode) (cs rs fs is ms ss : List ℕ) (cap : ℕ) (ws₀ 
       let g : Given = stepping n m cs rs fs is ms ss cap in
       pop-start g (o .checked .sound) (o .checked .most) (o .last) (stateOf cap ws c) x (reached-inv g (o .checked .sound) (o .checked .most) (o .checked .inside) (o .last) (stateOf cap ws c) (o .reached)) h
 
-  pub going-turns : Turning cap cs rs fs is ws c t
+  pub going-turns : Turning cap cs is ws c
   going-turns =
-      let g : Given = stepping n m cs rs fs is ms ss cap in
-      record {
-        last = o .last;
-        cursors = o .cursors;
-        ahead = λ x h. omega (arith, keyed x h, queue-ahead g (o .checked .sound) (o .checked .most) (o .checked .inside) (o .last) (stateOf cap ws c) (o .reached) x h);
-        ready = o .ready;
-        rows = o .rows;
-        tables = tabled (tables n cs rs fs is ms ss) (o .checked .sound);
-      }
+      let a = tabled (tables n cs rs fs is ms ss) (o .checked .sound) in
+      record { ready = o .ready; rows = o .rows; few = a .few; class = a .class }
 
   -- nothing is queued
   pub going-empty : c .queued ≡ 0 → Ran m (tables n cs rs fs is ms ss) cap ws₀ ws (On c)
@@ -136,27 +129,58 @@ module _ (n : ℕ) (m : Mode) (cs rs fs is ms ss : List ℕ) (cap : ℕ) (ws₀ 
   going-out h = let left : cap - turn ≡ 0 = omega arith in record { meets = rw left at (o .rest); ends = calling.done c (o .ready); long = o .long }
 
   -- ---- a turn
-  module _ (ws₁ : List ℕ) (f : Front) (p : Fronted cap cs rs fs is ws ws₁ c f) where
+  module _ (ws₁ : List ℕ) (f : Front) (p : Fronted cap cs is ws ws₁ c f) where
     pieces-stay : stateOf cap ws₁ (f .counts) .pieces ≡ stateOf cap ws c .pieces
     pieces-stay = ap (λ (s : State). s .pieces) (p .becomes) ∙ dropped-pieces (withQueue (p .xs) (stateOf cap ws c)) _
 
-    pub going-settles : (row : List Pos) → FreeRow rs fs (stateOf cap ws₁ (f .counts)) (piece (stateOf cap ws₁ (f .counts)) (f .record)) (f .class .first) (f .class .count) row
-        → Settles cap cs rs fs is ms ss ws₁ f (getD (set free (f .index) row) (f .index) [])
-    going-settles row h =
+    -- the record's start is that of its key, not before the last
+    started : f .start ≡ p .x / 16384
+    started =
+        let begun : List·Memᴰ (p .x) (stateOf cap ws c .queue) = rw (p .first) (List·Memᴰ·head refl) in
+        p .start ∙ ap (λ (ps : List Piece). getD ps (f .record) noPiece .start) pieces-stay ∙ ap (λ (k : ℕ). piece (stateOf cap ws c) k .start) (p .names) ∙ keyed (p .x) begun
+
+    later : o .last ≤ f .start
+    later =
+        let g : Given = stepping n m cs rs fs is ms ss cap in
+        let begun : List·Memᴰ (p .x) (stateOf cap ws c .queue) = rw (p .first) (List·Memᴰ·head refl) in
+        omega (arith, started, queue-ahead g (o .checked .sound) (o .checked .most) (o .checked .inside) (o .last) (stateOf cap ws c) (o .reached) (p .x) begun)
+
+    class-inside : f .class .first + f .class .count ≤ length rs
+    class-inside = rw (p .kind) (tabled (tables n cs rs fs is ms ss) (o .checked .sound) .inside (f .index) (p .listed))
+
+    pub going-tracks : Trackable rs fs t f
+    going-tracks =
         record {
-          stepping =
-              record {
-                ready = p .ready;
-                fit = rw pieces-stay (o .fit);
-                inside = p .inside;
-                rows = p .rows;
-                room = p .room;
-                tables = tabled (tables n cs rs fs is ms ss) (o .checked .sound);
-                facing = rw (p .class) at (p .facing);
-              };
-          class = p .class;
-          free = rw (getD-set-same free (f .index) row [] (omega (arith, p .index, o .wide))) h;
+          ready = ready (fixed-tables (tables n cs rs fs is ms ss) (o .checked .sound)) (f .class .first) (f .class .count) class-inside (o .cursors);
+          few = omega (arith, p .ready .held, p .ready .records, p .ready .most);
         }
+
+    module _ (u : Tracker) (moves : u ≡ trackedTo rs fs t f) where
+      faced : Facing rs fs (piece (stateOf cap ws₁ (f .counts)) (f .record) .start) (f .class .first) (f .class .count) u
+      faced =
+          rw (moves, ← p .start)
+          (updated-facing (fixed-tables (tables n cs rs fs is ms ss) (o .checked .sound)) (f .class .first) (f .class .count) class-inside (o .cursors) (f .start) (f .counts .active) later)
+
+      pub going-faces : Faces cap rs fs ws₁ f u
+      going-faces = record { ready = p .ready; inside = p .inside; facing = faced }
+
+      pub going-settles : (row : List Pos) → FreeRow rs fs (stateOf cap ws₁ (f .counts)) (piece (stateOf cap ws₁ (f .counts)) (f .record)) (f .class .first) (f .class .count) row
+          → Settles cap cs rs fs is ms ss ws₁ f u (getD (set free (f .index) row) (f .index) [])
+      going-settles row h =
+          record {
+            stepping =
+                record {
+                  ready = p .ready;
+                  fit = rw pieces-stay (o .fit);
+                  inside = p .inside;
+                  rows = p .rows;
+                  room = p .room;
+                  tables = tabled (tables n cs rs fs is ms ss) (o .checked .sound);
+                  facing = rw (p .class) at faced;
+                };
+            class = p .class;
+            free = rw (getD-set-same free (f .index) row [] (omega (arith, p .index, o .wide))) h;
+          }
 
     module _ (ws₂ : List ℕ) (r : Turn) (h : turn < cap) (d : Did cap ms ss ws₁ ws₂ (f .counts) r (settled (stepping n m cs rs fs is ms ss cap) (stateOf cap ws₁ (f .counts)) (f .record))) where
       -- the turn is the rules' step
@@ -177,19 +201,18 @@ module _ (n : ℕ) (m : Mode) (cs rs fs is ms ss : List ℕ) (cap : ℕ) (ws₀ 
           ∙ ap (λ (k : ℕ). run k (stepping n m cs rs fs is ms ss cap) (stateOf cap ws c)) (sym left)
           ∙ o .rest
 
-      pub going-on : (e : Counts) (i : ℕ) (row : List Pos) → r ≡ On e → Going n m cs rs fs is ms ss cap ws₀ ws₂ e (f .tracker) (set free i row) (turn + 1)
+      pub going-on : (u : Tracker) → u ≡ trackedTo rs fs t f → (e : Counts) (i : ℕ) (row : List Pos) → r ≡ On e → Going n m cs rs fs is ms ss cap ws₀ ws₂ e u (set free i row) (turn + 1)
       unfolding outcomeOf
-      going-on e i row q =
+      going-on u moves e i row q =
           let w = did-stays cap ms ss ws₁ ws₂ (f .counts) e r _ d q in
           let to : outcomeOf cap ws₂ r ≡ goes (stateOf cap ws₂ e) = rw q in
-          let begun : List·Memᴰ (p .x) (stateOf cap ws c .queue) = rw (p .first) (List·Memᴰ·head refl) in
-          let at : piece (stateOf cap ws₁ (f .counts)) (f .record) .start ≡ p .x / 16384 = ap (λ (ps : List Piece). getD ps (f .record) noPiece .start) pieces-stay ∙ ap (λ (k : ℕ). piece (stateOf cap ws c) k .start) (p .names) ∙ keyed (p .x) begun in
+          let at : piece (stateOf cap ws₁ (f .counts)) (f .record) .start ≡ p .x / 16384 = sym (p .start) ∙ started in
           record {
             checked = record { sound = o .checked .sound; most = o .checked .most; long = omega (arith, o .checked .long, d .long, p .long); inside = o .checked .inside };
             rest = rw q at turned;
             last = p .x / 16384;
             reached = pops (o .last) (stateOf cap ws c) (p .x) (p .xs) (stateOf cap ws₂ e) (o .reached) (p .first) (sym stepped ∙ to);
-            cursors = rw at at (p .facing .cursors);
+            cursors = rw at at (faced u moves .cursors);
             ready = w .ready;
             fit = w .fit;
             rows = w .intervals ∙ p .rows;
@@ -201,7 +224,3 @@ module _ (n : ℕ) (m : Mode) (cs rs fs is ms ss : List ℕ) (cap : ℕ) (ws₀ 
       pub going-off : (a : Answer) → r ≡ Off a → Ran m (tables n cs rs fs is ms ss) cap ws₀ ws₂ (Off a)
       unfolding outcomeOf
       going-off a q = record { meets = rw q at turned; ends = calling.refused a; long = d .long ∙ p .long ∙ o .long }
-
--- a front's cursors face its start
-pub front-faces : (cap : ℕ) (cs rs fs is ws ws′ : List ℕ) (c : Counts) (f : Front) → Fronted cap cs rs fs is ws ws′ c f → Faces cap rs fs ws′ f
-front-faces cap cs rs fs is ws ws′ c f p = record { ready = p .ready; inside = p .inside; facing = p .facing }

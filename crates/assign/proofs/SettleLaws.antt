@@ -17,6 +17,7 @@ use Rattle.store.specs.declared.Counts.{Counts}
 use Rattle.store.specs.StateOf.{stateOf}
 use Rattle.choice.specs.Row.{posIn}
 use Rattle.choice.proofs.ChoiceLaws.{free-choice}
+use Rattle.activity.specs.declared.Tracker.{Tracker}
 use Rattle.split.specs.declared.Turn.{Turn}
 use Rattle.split.specs.declared.Turn.the-variants.{On, Off}
 use Rattle.split.specs.Turns.{cutting, outcomeOf, HeldOf, Does}
@@ -34,7 +35,7 @@ did-stays cap ms ss ws ws′ c e r o d q = go r (d .ends) q
     go u (ended x w) i = let same : x ≡ e = cc in rw same at w
     go u (refused a) i = let z : _≡_ {A = ℕ} 0 1 = cc in absurd (omega arith)
 
-module _ (cap : ℕ) (cs rs fs is ms ss ws : List ℕ) (f : Front) (row : List Pos) (h : Settles cap cs rs fs is ms ss ws f row) where
+module _ (cap : ℕ) (cs rs fs is ms ss ws : List ℕ) (f : Front) (t : Tracker) (row : List Pos) (h : Settles cap cs rs fs is ms ss ws f t row) where
   -- the class lies in the row
   pub settle-row : f .class .first + f .class .count ≤ 64
   settle-row = omega (arith, h .stepping .facing .inside, h .stepping .facing .fixed .few, ap (λ (c : Class). c .first) (h .class), ap (λ (c : Class). c .count) (h .class))

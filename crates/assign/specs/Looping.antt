@@ -1,18 +1,19 @@
 -- Facts for contracts: the head of the main loop, and the record that a turn of it pops, with step 1 of document 01 done.
 use Prim.Native.Nat.{ℕ, _+_, _≤_, _<_}
 use mathlib.Core.Path.{_≡_}
-use mathlib.Core.List.{List, _∷_, List·Memᴰ}
+use mathlib.Core.List.{List, _∷_}
 use lib.ListN.{length}
-use Rattle.words.specs.Packed.{intervalCount}
+use Rattle.words.specs.Packed.{classAt, intervalAt, intervalCount}
 use Rattle.rules.specs.declared.Pos.{Pos}
 use Rattle.rules.specs.State.{Given, State, Outcome, goOn, piece, withQueue, recordOfKey}
 use Rattle.rules.specs.Steps.{dropEnded, allocate, handleSafepoints}
 use Rattle.store.specs.declared.Counts.{Counts}
 use Rattle.store.specs.StateOf.{stateOf, Ready}
 use Rattle.activity.specs.declared.Tracker.{Tracker}
-use Rattle.activity.specs.Cursors.{Cursors, Facing}
+use Rattle.activity.specs.Cursors.{Facing, advanced}
+use Rattle.activity.specs.Cursors as cursors
 use Rattle.choice.specs.Holding.{FreeRow}
-use Rattle.steps.specs.Stepping.{Tabled, classFor, Stepping}
+use Rattle.steps.specs.Stepping.{classFor, Stepping}
 use Rattle.assign.specs.declared.Start.{Start}
 use Rattle.assign.specs.declared.Front.{Front}
 
@@ -32,17 +33,15 @@ pub record Started (cap : ℕ) (ws ws′ : List ℕ) (c : Counts) (r : Start) : 
   pub room : r .counts .queued + r .counts .active < r .counts .records
   pub long : length ws′ ≡ length ws
 
--- the head of the loop: no record that is queued starts before the last start, where the cursors stand
-pub record Turning (cap : ℕ) (cs rs fs is ws : List ℕ) (c : Counts) (t : Tracker) : Type 0 where
-  pub last : ℕ
-  pub cursors : Cursors rs fs last t
-  pub ahead : (x : ℕ) → List·Memᴰ x (stateOf cap ws c .queue) → last ≤ piece (stateOf cap ws c) (recordOfKey x) .start
+-- the head of the loop: what a pop reads
+pub record Turning (cap : ℕ) (cs is ws : List ℕ) (c : Counts) : Type 0 where
   pub ready : Ready cap ws c
   pub rows : c .intervals ≡ intervalCount is
-  pub tables : Tabled cs rs fs is
+  pub few : length cs ≤ 8
+  pub class : (v : ℕ) → v < intervalCount is → intervalAt is v .class < length cs
 
--- the popped record's class is read, and the cursors face its start
-pub record Fronted (cap : ℕ) (cs rs fs is ws ws′ : List ℕ) (c : Counts) (f : Front) : Type 0 where
+-- the popped record's class is read
+pub record Fronted (cap : ℕ) (cs is ws ws′ : List ℕ) (c : Counts) (f : Front) : Type 0 where
   pub x : ℕ
   pub xs : List ℕ
   pub first : stateOf cap ws c .queue ≡ x ∷ xs
@@ -52,20 +51,31 @@ pub record Fronted (cap : ℕ) (cs rs fs is ws ws′ : List ℕ) (c : Counts) (f
   pub inside : f .record < f .counts .records
   pub rows : f .counts .intervals ≡ intervalCount is
   pub room : f .counts .queued + f .counts .active < f .counts .records
+  pub start : f .start ≡ piece (stateOf cap ws′ (f .counts)) (f .record) .start
   pub class : f .class ≡ classFor cs is (stateOf cap ws′ (f .counts)) (f .record)
-  pub facing : Facing rs fs (piece (stateOf cap ws′ (f .counts)) (f .record) .start) (f .class .first) (f .class .count) (f .tracker)
+  pub listed : f .index < length cs
+  pub kind : f .class ≡ classAt cs (f .index)
   pub index : f .index < 8
   pub long : length ws′ ≡ length ws
 
+-- the cursors of a front's class can be moved to its start
+pub record Trackable (rs fs : List ℕ) (t : Tracker) (f : Front) : Type 0 where
+  pub ready : cursors.Ready rs fs t (f .class .first) (f .class .count)
+  pub few : f .counts .active < 65536
+
+-- .. and are
+abbrev pub trackedTo : List ℕ → List ℕ → Tracker → Front → Tracker
+trackedTo rs fs t f = advanced rs fs t (f .class .first) (f .class .count) (f .start) (f .counts .active)
+
 -- the cursors of a front's class face its record's start
-pub record Faces (cap : ℕ) (rs fs ws : List ℕ) (f : Front) : Type 0 where
+pub record Faces (cap : ℕ) (rs fs ws : List ℕ) (f : Front) (t : Tracker) : Type 0 where
   pub ready : Ready cap ws (f .counts)
   pub inside : f .record < f .counts .records
-  pub facing : Facing rs fs (piece (stateOf cap ws (f .counts)) (f .record) .start) (f .class .first) (f .class .count) (f .tracker)
+  pub facing : Facing rs fs (piece (stateOf cap ws (f .counts)) (f .record) .start) (f .class .first) (f .class .count) t
 
 -- .. and its class has this row of free-until positions
-pub record Settles (cap : ℕ) (cs rs fs is ms ss ws : List ℕ) (f : Front) (row : List Pos) : Type 0 where
-  pub stepping : Stepping cap cs rs fs is ms ss ws (f .counts) (f .tracker) (f .record)
+pub record Settles (cap : ℕ) (cs rs fs is ms ss ws : List ℕ) (f : Front) (t : Tracker) (row : List Pos) : Type 0 where
+  pub stepping : Stepping cap cs rs fs is ms ss ws (f .counts) t (f .record)
   pub class : f .class ≡ classFor cs is (stateOf cap ws (f .counts)) (f .record)
   pub free : FreeRow rs fs (stateOf cap ws (f .counts)) (piece (stateOf cap ws (f .counts)) (f .record)) (f .class .first) (f .class .count) row
 

@@ -14,7 +14,7 @@ ghost use Rattle.words.specs.Packed.{intervalAt, intervalCount};
 ghost use Rattle.rules.specs.State.{piece as pieceOf};
 ghost use Rattle.store.specs.StateOf.{Ready, stateOf};
 ghost use Rattle.choice.specs.Holding.{FreeRow};
-ghost use Rattle.assign.specs.Looping.{Started, Turning, Fronted, Faces};
+ghost use Rattle.assign.specs.Looping.{Started, Turning, Fronted, Trackable, trackedTo, Faces};
 
 const INTERVAL_WORDS: usize = 4;
 
@@ -53,60 +53,68 @@ fn class_index(intervals: &[u32], v: usize) -> usize
     (kind / CLASS_AT % CLASSES) as usize
 }
 
-// The next record, with its class, and the tracker at its start.
+// The next record, with its class.
 pub(crate) fn front(
     classes: &[u32],
-    registers: &[u32],
-    fragments: &[u32],
     intervals: &[u32],
     work: &mut [u32],
     cap: usize,
     counts: Counts,
-    tracker: Tracker,
 ) -> Front
-    requires { ⌜ Turning cap (now classes) (now registers) (now fragments) (now intervals) (now work) counts tracker ⌝ }
+    requires { ⌜ Turning cap (now classes) (now intervals) (now work) counts ⌝ }
     requires { ⌜ 0 < counts .queued ⌝ }
-    ensures { λ f. ⌜ Fronted cap (now (classes .entry)) (now (registers .entry)) (now (fragments .entry)) (now (intervals .entry)) (now (work .entry)) (now (work .exit)) counts f ⌝ }
+    ensures { λ f. ⌜ Fronted cap (now (classes .entry)) (now (intervals .entry)) (now (work .entry)) (now (work .exit)) counts f ⌝ }
 {
     let begun = start_of(work, cap, counts);
     let index = class_index(intervals, begun.interval);
     let class = read::class_at(classes, index);
     let after = begun.counts;
-    let active = after.active as u16;
-    let moved = activity::tracked(
+    Front {
+        record: begun.record,
+        index: index,
+        class: class,
+        start: begun.start,
+        counts: after,
+    }
+}
+
+// The tracker at the record's start.
+pub(crate) fn track(registers: &[u32], fragments: &[u32], tracker: Tracker, f: Front) -> Tracker
+    requires { ⌜ Trackable (now registers) (now fragments) tracker f ⌝ }
+    ensures { λ u. ⌜ u ≡ trackedTo (now (registers .entry)) (now (fragments .entry)) tracker f ⌝ }
+{
+    let class = f.class;
+    let counts = f.counts;
+    let active = counts.active as u16;
+    activity::tracked(
         tracker,
         registers,
         fragments,
         class.first as usize,
         class.count as usize,
-        begun.start,
+        f.start,
         active,
-    );
-    Front {
-        record: begun.record,
-        index: index,
-        class: class,
-        counts: after,
-        tracker: moved,
-    }
+    )
 }
 
-// Step 2: the free-until positions of the record's class.
+// Step 2: the free-until positions of the record's class, in place of those in its row.
 pub(crate) fn free_row(
+    row: [Pos; 64],
     registers: &[u32],
     fragments: &[u32],
     work: &[u32],
     cap: usize,
     f: Front,
+    tracker: Tracker,
 ) -> [Pos; 64]
-    requires { ⌜ Faces cap (now registers) (now fragments) (now work) f ⌝ }
+    requires { ⌜ Faces cap (now registers) (now fragments) (now work) f tracker ⌝ }
     ensures { λ o. ⌜ FreeRow (now (registers .entry)) (now (fragments .entry)) (stateOf cap (now (work .entry)) (f .counts)) (pieceOf (stateOf cap (now (work .entry)) (f .counts)) (f .record)) (f .class .first) (f .class .count) o ⌝ }
 {
     let counts = f.counts;
     let class = f.class;
-    let tracker = f.tracker;
     let q = state::piece(work, cap, counts, f.record);
     held::free_until(
+        row,
         work,
         cap,
         counts,

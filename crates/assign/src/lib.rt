@@ -1,5 +1,4 @@
 // The assigner: the main loop of document 01, and the public call. Any words at all get an answer.
-use activity::Tracker;
 use store::Counts;
 use words::Class;
 
@@ -17,11 +16,11 @@ struct Start {
     counts: Counts,
 }
 
-// .. with its class, by number and as read, and the tracker at its start.
+// .. with its class, by number and as read.
 struct Front {
     record: usize,
     index: usize,
     class: Class,
+    start: u16,
     counts: Counts,
-    tracker: Tracker,
 }

@@ -32,9 +32,11 @@ pub(crate) fn run(
         if c.queued == 0 {
             return Turn::On(c);
         }
-        let f = fronts::front(classes, registers, fragments, intervals, work, cap, c, t);
+        let f = fronts::front(classes, intervals, work, cap, c);
+        t = fronts::track(registers, fragments, t, f);
         let index = f.index;
-        free[index] = fronts::free_row(registers, fragments, work, cap, f);
+        let old = free[index];
+        free[index] = fronts::free_row(old, registers, fragments, work, cap, f, t);
         let row = free[index];
         let settled = settling::settle(
             mode,
@@ -48,14 +50,13 @@ pub(crate) fn run(
             work,
             cap,
             f,
+            t,
             row,
         );
         match settled {
             Turn::On(next) => c = next,
             Turn::Off(answer) => return Turn::Off(answer),
         }
-        let moved = f.tracker;
-        t = moved;
         turn += 1;
     }
     Turn::On(c)

@@ -1,5 +1,6 @@
 // Steps 2 to 5 for the popped record: the furthest register, what is done with it, then its safepoints.
 use crate::Front;
+use activity::Tracker;
 use choice::positions;
 use rules::Mode;
 use rules::Pos;
@@ -21,14 +22,14 @@ pub(crate) fn settle(
     work: &mut [u32],
     cap: usize,
     f: Front,
+    tracker: Tracker,
     row: [Pos; 64],
 ) -> Turn
-    requires { ⌜ Settles cap (now classes) (now registers) (now fragments) (now intervals) (now mentions) (now safepoints) (now work) f row ⌝ }
+    requires { ⌜ Settles cap (now classes) (now registers) (now fragments) (now intervals) (now mentions) (now safepoints) (now work) f tracker row ⌝ }
     ensures { λ r. ⌜ Did cap (now (mentions .entry)) (now (safepoints .entry)) (now (work .entry)) (now (work .exit)) (f .counts) r (settled (stepping instructions mode (now (classes .entry)) (now (registers .entry)) (now (fragments .entry)) (now (intervals .entry)) (now (mentions .entry)) (now (safepoints .entry)) cap) (stateOf cap (now (work .entry)) (f .counts)) (f .record)) ⌝ }
 {
     let counts = f.counts;
     let class = f.class;
-    let tracker = f.tracker;
     let k = f.record;
     let choice = positions::furthest_of(
         row,

@@ -6,6 +6,7 @@ use crate::Read;
 use crate::Span;
 use crate::Trouble;
 use crate::body;
+use crate::body::Body;
 use crate::keyed;
 use crate::lines;
 use crate::lines::Fault;
@@ -15,6 +16,8 @@ use crate::scan;
 ghost use mathlib.Core.Path.{_≡_};
 ghost use Prim.Native.Nat.{ℕ, _+_, _<_, _≤_};
 ghost use lib.ListN.{length};
+ghost use Rattle.cases.specs.Bounds.{Named};
+ghost use Rattle.cases.specs.Parts.{Whole};
 ghost use Rattle.cases.specs.Reading.{Told, Reads, Onward};
 
 // The start of a text.
@@ -88,6 +91,31 @@ fn trouble(text: &[u8], name: Span, fault: Fault, after: Cursor) -> Trouble
     }
 }
 
+// What a case's lines say: the case, or what is wrong with it.
+fn told(text: &[u8], name: Span, after: Cursor, body: Body) -> Read
+    requires { ⌜ after .at ≤ length (now text) ⌝ }
+    ensures { λ r. ⌜ ((at a b c d e f g : ℕ) → Named at (length (now (text .entry))) name after → Whole (length (now (text .entry))) a b c d e f g body → Reads at (length (now (text .entry))) a b c d e f g r) ⌝ }
+{
+    let step = body.step;
+    match step {
+        Step::Bad(fault) => Read::Bad(trouble(text, name, fault, after)),
+        Step::Next(last) => {
+            let options = body.options;
+            let counts = body.counts;
+            let room = body.room;
+            let claimed = body.claim;
+            Read::Case(Case {
+                name: name,
+                options: options,
+                counts: counts,
+                room: room,
+                claim: claimed,
+                next: further(last, after),
+            })
+        }
+    }
+}
+
 // The next case, its tables in the lent words; or what is wrong with it; or the end of the text.
 pub fn read(
     text: &[u8],
@@ -131,24 +159,7 @@ pub fn read(
                 safepoints,
                 claim,
             );
-            let step = body.step;
-            match step {
-                Step::Bad(fault) => Read::Bad(trouble(text, name, fault, next)),
-                Step::Next(last) => {
-                    let options = body.options;
-                    let counts = body.counts;
-                    let room = body.room;
-                    let claimed = body.claim;
-                    Read::Case(Case {
-                        name: name,
-                        options: options,
-                        counts: counts,
-                        room: room,
-                        claim: claimed,
-                        next: further(last, next),
-                    })
-                }
-            }
+            told(text, name, next, body)
         }
     }
 }

@@ -6,13 +6,14 @@ use mathlib.Core.List.{List, [], _∷_}
 use native.Mathlib.Omega.{arith}
 use native.Mathlib.Numerals.{add-one}
 use lib.ListN.{getD}
+use Rattle.words.proofs.Fold.{one-less, none-left}
 use Rattle.rules.specs.declared.Pos.{Pos}
 use Rattle.rules.specs.declared.Choice.{Choice}
 use Rattle.rules.specs.declared.Choice.the-variants.{AllBlocked}
 use Rattle.rules.specs.Steps.{furthest, posOf}
 use Rattle.choice.specs.declared.RegPos.{RegPos}
 use Rattle.choice.specs.Row.{posIn, better, nearerOf, isNever, noEntry, entryAt, furthestEntry}
-use Rattle.choice.proofs.FurthestLaws.{one-less, none-left, Weighed, weighed-first, weighed-next, Scanned, scanned-never}
+use Rattle.choice.proofs.FurthestLaws.{Weighed, weighed-first, weighed-next, Scanned, scanned-never}
 
 -- what is left of the scan from i on, with the best so far, is the whole scan
 pub record Reading (es : List RegPos) (scratch count : ℕ) (start best : Choice) (i : ℕ) : Type 0 where

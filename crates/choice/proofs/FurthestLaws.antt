@@ -8,6 +8,7 @@ use native.Mathlib.Numerals.{add-one}
 use native.Mathlib.Decide.{decLe, ℕ-discrete}
 use borrow.Author.Tests.{le-ltb, lt-ltb, eq-eqb, ne-eqb}
 use Rattle.words.specs.Choose.{choose}
+use Rattle.words.proofs.Fold.{one-less, none-left}
 use Rattle.rules.specs.declared.Pos.{Pos}
 use Rattle.rules.specs.declared.Pos.the-variants.{Blocked, At, Never}
 use Rattle.rules.specs.declared.Choice.{Choice}
@@ -15,12 +16,6 @@ use Rattle.rules.specs.declared.Choice.the-variants.{AllBlocked, Take}
 use Rattle.rules.specs.Positions.{below}
 use Rattle.rules.specs.Steps.{furthest, posOf}
 use Rattle.choice.specs.Row.{posIn, better, nearerOf, isNever}
-
-pub one-less : (i n : ℕ) → i < n → n - i ≡ suc (n - (i + 1))
-one-less i n h = omega arith
-
-pub none-left : (i n : ℕ) → n ≤ i → n - i ≡ 0
-none-left i n h = omega arith
 
 -- positions that agree on the registers other than scratch have the same furthest
 pub furthest-agrees : (pos pos′ : ℕ → Pos) (scratch n r : ℕ) (best : Choice)

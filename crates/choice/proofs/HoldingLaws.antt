@@ -2,17 +2,19 @@
 use Prim.Native.Nat.{ℕ, _+_, _-_, _*_, _≤_, _<_}
 use mathlib.Core.Path.{_≡_, refl, sym, ap, subst, _∙_}
 use mathlib.Core.Bool.{Bool, true, false, _||_}
-use mathlib.Core.List.{List}
+use mathlib.Core.List.{List, _∷_}
 use native.Mathlib.Omega.{arith}
 use native.Mathlib.Decide.{decLe, decLt, ℕ-discrete}
 use native.Mathlib.Numerals.{add-one}
 use lib.ListN.{length, getD, set, drop, length-set}
+use lib.Dec.{eqb}
 use lib.Seq.{getD-set-same, getD-set-other, drop-cons, drop-length}
 use mir.Syntax.{w64}
 use mir.Val.{Fits}
 use borrow.Author.Tests.{le-leb, lt-leb, lt-ltb, le-ltb, eq-eqb, ne-eqb}
 use Rattle.words.specs.Choose.{choose}
-use Rattle.words.specs.Packed.{part, registerAt}
+use Rattle.words.specs.declared.Range.{Range}
+use Rattle.words.specs.Packed.{part, rangeIn, registerAt}
 use Rattle.words.specs.declared.Spot.{Spot}
 use Rattle.words.specs.declared.Spot.the-variants.{Nothing, Point}
 use Rattle.rules.specs.declared.Piece.{Piece}
@@ -30,11 +32,15 @@ use Rattle.uses.specs.Runs.{Rising}
 use Rattle.store.specs.declared.Counts.{Counts}
 use Rattle.store.specs.StateOf.{stateOf, Ready, Got, GotActive}
 use Rattle.store.proofs.StateLaws.{active-are, records-are}
+use Rattle.activity.specs.declared.Tracker.{Tracker}
 use Rattle.activity.specs.Fixed.{fixedPos}
+use Rattle.activity.specs.Cursors.{Facing}
 use Rattle.choice.specs.declared.Seat.{Seat}
 use Rattle.choice.specs.declared.Seat.the-variants.{Outside, Inside}
+use Rattle.choice.specs.Bits.{hasBit, WithBit}
 use Rattle.choice.specs.Row.{posIn, FixedRow}
-use Rattle.choice.specs.Holding.{seatOf, heldPos, useOf, nextPos, HolderRow, Runs, FreeRow, NextRow}
+use Rattle.choice.specs.Holding.{seatOf, useOf, nextPos, HolderRow, HeldMask, OpenRow, Runs, FreeRow, NextRow}
+use Rattle.choice.proofs.BitLaws.{no-bit}
 
 -- ---- seats
 pub seat-nowhere : (place : Place) (first stop : ℕ) → place ≡ Nowhere → Outside ≡ seatOf first stop place
@@ -163,24 +169,92 @@ module _ (F : ℕ → Holder → Pos) (cap : ℕ) (ws : List ℕ) (c : Counts) (
   pub walk-ends : (i : ℕ) → i ≤ 0 → Holding F (stateOf cap ws c) first (first + count) b i → HolderRow F (stateOf cap ws c) first count b
   walk-ends i l h = holding-ends F (stateOf cap ws c) first (first + count) b count i refl l h
 
--- ---- free-until: a held register is blocked
-pub held-starts : (cap : ℕ) (ws : List ℕ) (c : Counts) (first stop : ℕ) (row : List Pos) → Ready cap ws c → length row ≡ 64
-    → Holding (heldPos row) (stateOf cap ws c) first stop row (c .active)
-unfolding heldPos
-held-starts cap ws c first stop row y l =
-    subst (λ (n : ℕ). Holding (heldPos row) (stateOf cap ws c) first stop row n) (active-are cap ws c y)
-    (holding-starts (heldPos row) (stateOf cap ws c) first stop row l (λ r. refl))
+-- ---- the registers that are held, as bits
+-- the active records from i on have had their say
+pub record Masked (s : State) (m i : ℕ) : Type 0 where
+  pub is : (r : ℕ) → r < 64 → hasBit m r ≡ isHeld (holderIn s r (drop i (s .active)))
+  pub upto : i ≤ length (s .active)
 
-pub held-blocked : (row : List Pos) (r j : ℕ) → Blocked ≡ heldPos row r (Held j)
-unfolding heldPos
-held-blocked row r j = refl
+module _ (cap : ℕ) (ws : List ℕ) (c : Counts) where
+  pub mask-starts : Ready cap ws c → Masked (stateOf cap ws c) 0 (c .active)
+  unfolding holderIn
+  mask-starts y =
+      subst (λ (n : ℕ). Masked (stateOf cap ws c) 0 n) (active-are cap ws c y)
+      (record { is = λ r l. rw drop-length (no-bit r); upto = omega arith })
 
--- free-until, from the fixed row and the holders
-pub free-row : (rs fs : List ℕ) (s : State) (q : Piece) (first count : ℕ) (row fixed o : List Pos)
-    → FixedRow rs fs first count (q .start) (q .end) row fixed → HolderRow (heldPos fixed) s first count o → FreeRow rs fs s q first count o
-unfolding freeUntil heldPos fixedPos
-free-row rs fs s q first count row fixed o x h =
-    record { is = λ g e f r a l. h .is r a l ∙ rw (e, f, x .held r a l) (go (isHeld (holder s r)) (fixedActive (q .start) (part (registerAt rs r) fs)) (firstStart (q .start) (q .end) (part (registerAt rs r) fs))) }
+  module _ (m i : ℕ) (h : Masked (stateOf cap ws c) m i) (p : 0 < i) (y : Ready cap ws c) where
+    pub mask-active : i - 1 < c .active
+    mask-active = omega (arith, h .upto, active-are cap ws c y)
+
+    next : drop (i - 1) (stateOf cap ws c .active) ≡ getD (stateOf cap ws c .active) (i - 1) 0 ∷ drop i (stateOf cap ws c .active)
+    next = let e : i - 1 + 1 ≡ i = omega arith in rw (drop-cons (stateOf cap ws c .active) (i - 1) 0 (omega (arith, h .upto)), sym (add-one (i - 1)), e) refl
+
+    module _ (j : ℕ) (g : GotActive cap ws c (i - 1) j) (q : Piece) (k : Got cap ws c j q) (seat : Seat) (o : seat ≡ seatOf 0 64 (q .place)) where
+      mask-piece : q ≡ piece (stateOf cap ws c) (getD (stateOf cap ws c .active) (i - 1) 0)
+      mask-piece = rw (sym (g .is)) (k .is)
+
+      -- the piece is in no register
+      pub mask-past : seat ≡ Outside → Masked (stateOf cap ws c) m (i - 1)
+      unfolding holderIn
+      mask-past e =
+          record {
+            is = λ r l. h .is r l ∙ sym (rw next (simp (rw mask-piece at (stands-off 0 64 (q .place) r (sym e ∙ o) (omega arith) l))));
+            upto = omega (arith, h .upto);
+          }
+
+      -- or in register x, which is held
+      pub mask-at : (x : ℕ) → seat ≡ Inside x → (n : ℕ) → WithBit m x n → Masked (stateOf cap ws c) n (i - 1)
+      unfolding holderIn
+      mask-at x e n w = record { is = λ r l. w .is r l ∙ at r l (ℕ-discrete x r); upto = omega (arith, h .upto) }
+        where
+          in-x : q .place ≡ Register x
+          in-x = sits 0 64 (q .place) x (sym e ∙ o) .register
+
+          at : (r : ℕ) → r < 64 → Dec (x ≡ r) → (eqb x r || hasBit m r) ≡ isHeld (holderIn (stateOf cap ws c) r (drop (i - 1) (stateOf cap ws c .active)))
+          at r l (yes d) =
+              let u : isRegister r (piece (stateOf cap ws c) (getD (stateOf cap ws c .active) (i - 1) 0) .place) ≡ true = let w : isRegister r (q .place) ≡ true = rw in-x (eq-eqb x r d) in rw mask-piece at w in
+              rw (eq-eqb x r d, next) (sym (simp u))
+          at r l (no d) =
+              let u : isRegister r (piece (stateOf cap ws c) (getD (stateOf cap ws c .active) (i - 1) 0) .place) ≡ false = let w : isRegister r (q .place) ≡ false = rw in-x (ne-eqb x r d) in rw mask-piece at w in
+              rw (ne-eqb x r d, next) (h .is r l ∙ sym (simp u))
+
+  pub mask-ends : (m i : ℕ) → i ≤ 0 → Masked (stateOf cap ws c) m i → HeldMask (stateOf cap ws c) m
+  mask-ends m i l h = let z : i ≡ 0 = omega arith in record { is = λ r a. rw z at (h .is r a) }
+
+-- a register has a bit
+pub seat-bit : (place : Place) (seat : Seat) (r : ℕ) → seat ≡ seatOf 0 64 place → seat ≡ Inside r → r < 64
+seat-bit place seat r e f = sits 0 64 place r (sym f ∙ e) .high
+
+-- ---- free-until: a held register is blocked, the others are as their fragments say
+-- the registers before r are filled
+pub record Opening (rs fs : List ℕ) (first count S end m : ℕ) (b : List Pos) (r : ℕ) : Type 0 where
+  pub is : (k : ℕ) → first ≤ k → k < r → posIn b k ≡ choose (hasBit m k) Blocked (fixedPos S end (part (registerAt rs k) fs))
+  pub long : length b ≡ 64
+  pub low : first ≤ r
+  pub upto : r ≤ first + count
+
+pub opening-starts : (rs fs : List ℕ) (first count S end m : ℕ) (b : List Pos) → length b ≡ 64 → Opening rs fs first count S end m b first
+opening-starts rs fs first count S end m b n = record { is = λ k a l. absurd (omega arith); long = n; low = omega arith; upto = omega arith }
+
+module _ {rs fs : List ℕ} {first count S end m : ℕ} {b : List Pos} {r : ℕ} (g : Opening rs fs first count S end m b r) where
+  pub opening-more : {t : Tracker} (range : Range) (p v : Pos) (taken : Bool) → Facing rs fs S first count t → range ≡ rangeIn (getD rs r 0) → p ≡ fixedPos S end (part range fs)
+      → taken ≡ hasBit m r → v ≡ choose taken Blocked p → r < first + count → Opening rs fs first count S end m (set b r v) (r + 1)
+  opening-more range p v taken y e f w u h =
+      record { is = λ k a l. at k a l (ℕ-discrete r k); long = simp length-set (g .long); low = omega (arith, g .low); upto = omega arith }
+    where
+      at : (k : ℕ) → first ≤ k → k < r + 1 → Dec (r ≡ k) → posIn (set b r v) k ≡ choose (hasBit m k) Blocked (fixedPos S end (part (registerAt rs k) fs))
+      at k a l (yes q) = rw (sym q) (getD-set-same b r v Blocked (omega (arith, g .long, y .inside, y .fixed .few)) ∙ u ∙ rw (w, f, e) refl)
+      at k a l (no d) = getD-set-other b r k v Blocked (λ q. d (sym q)) ∙ g .is k a (omega arith)
+
+  pub opening-ends : first + count ≤ r → OpenRow rs fs first count S end m b
+  opening-ends h = record { is = λ k a l. g .is k a (omega arith) }
+
+-- free-until, from the fragments and the holders
+pub free-row : (rs fs : List ℕ) (s : State) (q : Piece) (first count m : ℕ) (o : List Pos) {t : Tracker} → Facing rs fs (q .start) first count t → HeldMask s m
+    → OpenRow rs fs first count (q .start) (q .end) m o → FreeRow rs fs s q first count o
+unfolding freeUntil fixedPos
+free-row rs fs s q first count m o y h x =
+    record { is = λ g e f r a l. x .is r a l ∙ rw (e, f, h .is r (omega (arith, y .inside, y .fixed .few))) (go (isHeld (holder s r)) (fixedActive (q .start) (part (registerAt rs r) fs)) (firstStart (q .start) (q .end) (part (registerAt rs r) fs))) }
   where
     go : (a b : Bool) (p : Pos) → choose a Blocked (choose b Blocked p) ≡ choose (a || b) Blocked p
     go true b p = refl

@@ -6,7 +6,7 @@ use mathlib.Core.List.{List}
 use lib.ListN.{length}
 use lib.Dec.{leb, ltb}
 use Rattle.words.specs.Choose.{choose}
-use Rattle.words.specs.Packed.{part}
+use Rattle.words.specs.Packed.{part, registerAt}
 use Rattle.rules.specs.declared.Piece.{Piece}
 use Rattle.rules.specs.declared.Place.{Place}
 use Rattle.rules.specs.declared.Place.the-variants.{Nowhere, Register, Slot}
@@ -19,8 +19,10 @@ use Rattle.rules.specs.State.{Given, State, piece}
 use Rattle.rules.specs.Uses.{mentionPoints, nextUse}
 use Rattle.rules.specs.Steps.{isHeld, holder, posOfUse, freeUntil, nextUsePos}
 use Rattle.uses.specs.Runs.{Rising}
+use Rattle.activity.specs.Fixed.{fixedPos}
 use Rattle.choice.specs.declared.Seat.{Seat}
 use Rattle.choice.specs.declared.Seat.the-variants.{Outside, Inside}
+use Rattle.choice.specs.Bits.{hasBit}
 use Rattle.choice.specs.Row.{posIn}
 
 -- the register of a place, if it is one of first..stop
@@ -28,10 +30,6 @@ unfoldable pub seatOf : ℕ → ℕ → Place → Seat
 seatOf first stop Nowhere = Outside
 seatOf first stop (Register x) = choose (leb first x && ltb x stop) (Inside x) Outside
 seatOf first stop (Slot t) = Outside
-
--- 2. "blocked if an active piece .. holds it, else" what the row says
-unfoldable pub heldPos : List Pos → ℕ → Holder → Pos
-heldPos row r h = choose (isHeld h) Blocked (posIn row r)
 
 -- 4. "its active piece's next use from S"
 unfoldable pub useOf : List ℕ → State → ℕ → Holder → Pos
@@ -45,6 +43,14 @@ nextPos ms s S row r h = lowerOf (useOf ms s S h) (posIn row r)
 -- each register of a class has the position that F gives it by its holder
 pub record HolderRow (F : ℕ → Holder → Pos) (s : State) (first count : ℕ) (row : List Pos) : Type 0 where
   pub is : (r : ℕ) → first ≤ r → r < first + count → posIn row r ≡ F r (holder s r)
+
+-- the registers that active pieces hold, a bit for each
+pub record HeldMask (s : State) (m : ℕ) : Type 0 where
+  pub is : (r : ℕ) → r < 64 → hasBit m r ≡ isHeld (holder s r)
+
+-- 2. "blocked if an active piece .. holds it, else" what its fragments say
+pub record OpenRow (rs fs : List ℕ) (first count S end m : ℕ) (row : List Pos) : Type 0 where
+  pub is : (r : ℕ) → first ≤ r → r < first + count → posIn row r ≡ choose (hasBit m r) Blocked (fixedPos S end (part (registerAt rs r) fs))
 
 -- the mentions of every piece are in order
 pub record Runs (s : State) (ms : List ℕ) : Type 0 where

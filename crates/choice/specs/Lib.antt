@@ -1,3 +1,4 @@
 -- Positions by register.
+pub mod Bits
 pub mod Row
 pub mod Holding

@@ -1,9 +1,10 @@
 // What the active pieces put into a class's row. The holder of a register is the first active record in it, so the walks go from the last to the first, and the first has the last word.
 use crate::Seat;
+use crate::bits;
 use crate::positions;
-use crate::rows;
 use activity::REGISTERS;
 use activity::Tracker;
+use activity::fixed;
 use rules::Piece;
 use rules::Place;
 use rules::Pos;
@@ -12,15 +13,18 @@ use store::state;
 use uses::mentions as points;
 use words::Range;
 use words::Spot;
+use words::read;
 ghost use mathlib.Core.Path.{_≡_};
 ghost use Prim.Native.Nat.{ℕ, _+_, _<_, _≤_};
+ghost use Rattle.words.specs.Choose.{choose};
 ghost use Rattle.words.specs.Packed.{part};
+ghost use Rattle.rules.specs.declared.Pos.the-variants.{Blocked};
 ghost use Rattle.rules.specs.Uses.{mentionPoints, nextUse};
 ghost use Rattle.rules.specs.Steps.{posOfUse};
 ghost use Rattle.store.specs.StateOf.{Ready, stateOf};
 ghost use Rattle.uses.specs.Runs.{Rising};
 ghost use Rattle.activity.specs.Cursors.{Facing};
-ghost use Rattle.choice.specs.Holding.{FreeRow, HolderRow, Runs, heldPos, nextPos, seatOf};
+ghost use Rattle.choice.specs.Holding.{FreeRow, HeldMask, HolderRow, OpenRow, Runs, nextPos, seatOf};
 
 fn seat_of(place: Place, first: usize, stop: usize) -> Seat
     ensures { λ r. ⌜ r ≡ seatOf first stop place ⌝ }
@@ -41,37 +45,66 @@ fn seat_of(place: Place, first: usize, stop: usize) -> Seat
     }
 }
 
-// The registers that active pieces hold are blocked.
-pub fn held_row(
-    row: [Pos; REGISTERS],
-    work: &[u32],
-    cap: usize,
-    counts: Counts,
-    first: usize,
-    count: usize,
-) -> [Pos; REGISTERS]
+// The registers that active pieces hold, a bit for each.
+fn held_mask(work: &[u32], cap: usize, counts: Counts) -> u64
     requires { ⌜ Ready cap (now work) counts ⌝ }
-    requires { ⌜ first + count ≤ 64 ⌝ }
-    ensures { λ o. ⌜ HolderRow (heldPos row) (stateOf cap (now (work .entry)) counts) first count o ⌝ }
+    ensures { λ m. ⌜ HeldMask (stateOf cap (now (work .entry)) counts) m ⌝ }
 {
-    let mut b = row;
-    let stop = first + count;
+    let mut mask = 0u64;
     let mut i = counts.active;
     while 0 < i {
         i -= 1;
         let j = state::active_at(work, cap, counts, i);
         let q = state::piece(work, cap, counts, j);
         let place = q.place;
-        let seat = seat_of(place, first, stop);
+        let seat = seat_of(place, 0, REGISTERS);
         if let Seat::Inside(r) = seat {
-            b[r] = Pos::Blocked;
+            mask = bits::with_bit(mask, r);
         }
+    }
+    mask
+}
+
+fn unless_held(held: bool, p: Pos) -> Pos
+    ensures { λ o. ⌜ o ≡ choose «held» Blocked p ⌝ }
+{
+    if held {
+        return Pos::Blocked;
+    }
+    p
+}
+
+// The registers of a class: blocked where they are held, else as their fragments say. The row that is given is written over, so that none need be made.
+fn open_row(
+    row: [Pos; REGISTERS],
+    held: u64,
+    t: Tracker,
+    registers: &[u32],
+    fragments: &[u32],
+    first: usize,
+    count: usize,
+    start: u16,
+    end: u16,
+) -> [Pos; REGISTERS]
+    requires { ⌜ Facing (now registers) (now fragments) start first count t ⌝ }
+    ensures { λ o. ⌜ OpenRow (now (registers .entry)) (now (fragments .entry)) first count start end held o ⌝ }
+{
+    let mut b = row;
+    let stop = first + count;
+    let mut r = first;
+    while r < stop {
+        let range = read::range_in(registers[r]);
+        let p = fixed::fixed_position(fragments, range, t.cursors[r], start, end);
+        let taken = bits::has_bit(held, r);
+        b[r] = unless_held(taken, p);
+        r += 1;
     }
     b
 }
 
-// Step 2: free-until, for each register of the popped piece's class. The row is cleared for each piece.
+// Step 2: free-until, for each register of the popped piece's class. Every register of the class is written anew in its row.
 pub fn free_until(
+    row: [Pos; REGISTERS],
     work: &[u32],
     cap: usize,
     counts: Counts,
@@ -86,9 +119,18 @@ pub fn free_until(
     requires { ⌜ Facing (now registers) (now fragments) (q .start) first count t ⌝ }
     ensures { λ o. ⌜ FreeRow (now (registers .entry)) (now (fragments .entry)) (stateOf cap (now (work .entry)) counts) q first count o ⌝ }
 {
-    let row = rows::never_row();
-    let fixed = rows::fixed_row(row, t, registers, fragments, first, count, q.start, q.end);
-    held_row(fixed, work, cap, counts, first, count)
+    let held = held_mask(work, cap, counts);
+    open_row(
+        row,
+        held,
+        t,
+        registers,
+        fragments,
+        first,
+        count,
+        q.start,
+        q.end,
+    )
 }
 
 // The next use from `start`, as a position.

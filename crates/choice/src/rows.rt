@@ -7,7 +7,7 @@ use rules::Pos;
 use words::read;
 ghost use mathlib.Core.Path.{_≡_};
 ghost use Prim.Native.Nat.{ℕ, _+_, _<_, _≤_};
-ghost use lib.ListN.{set, replicate};
+ghost use lib.ListN.{replicate};
 ghost use Rattle.rules.specs.declared.Pos.the-variants.{Never};
 ghost use Rattle.activity.specs.Cursors.{Facing};
 ghost use Rattle.choice.specs.Row.{FixedRow};
@@ -24,17 +24,6 @@ pub fn never_rows() -> [[Pos; REGISTERS]; CLASSES]
 {
     let row = [Pos::Never; REGISTERS];
     [row; CLASSES]
-}
-
-// The row of a class is cleared: as it must be for each piece.
-pub fn cleared(tab: [[Pos; REGISTERS]; CLASSES], class: usize) -> [[Pos; REGISTERS]; CLASSES]
-    requires { ⌜ class < 8 ⌝ }
-    ensures { λ o. ⌜ o ≡ set tab class (replicate 64 Never) ⌝ }
-{
-    let mut b = tab;
-    let row = [Pos::Never; REGISTERS];
-    b[class] = row;
-    b
 }
 
 // The registers of a class get the positions that their fragments give.

@@ -28,6 +28,7 @@ use Rattle.rules.specs.Room.{capacity, workNeeded, strategyOf, checkRoom
 use Rattle.rules.specs.Sound.{andThen, refuseAt, inLimits, checkLimits, badClass, badInterval, badMention, badSafepoint, badFixed, checkTables}
 use Rattle.rules.specs.State.{Outcome, goes, stops}
 use Rattle.rules.specs.Call.{Result, packRecords, writeRecords, zeroRecords, finish, check, given, modeOf, runFor, assignBy, assign, unlessRefused}
+use Rattle.rules.proofs.AcceptedLaws.{then-right}
 use Rattle.rules.proofs.Keeps.{All, on, off}
 use Rattle.rules.proofs.Runs.{Finished, run-done}
 
@@ -79,14 +80,9 @@ room-fine n cap work e = go (ltb cap n) refl
     go true t = let f : Refused NoRoom ≡ Fine = simp t at e in let z : _≡_ {A = ℕ} 0 1 = cc in absurd (omega arith)
     go false t = ltb-false cap n t
 
--- the last of the checks that passed
-last-fine : (a b : Check) → andThen a b ≡ Fine → b ≡ Fine
-last-fine Fine b e = e
-last-fine (Refused a) b e = cc
-
 pub check-room : (T : Tables) (cap work : ℕ) → check T cap work ≡ Fine → intervalCount (T .intervals) ≤ cap
 unfolding check
-check-room T cap work e = room-fine _ _ work (last-fine (checkTables T) _ e)
+check-room T cap work e = room-fine _ _ work (then-right (checkTables T) _ e)
 
 pub length-pack : (qs : List Piece) → length (packRecords qs) ≡ length qs * recordWords
 unfolding packRecords

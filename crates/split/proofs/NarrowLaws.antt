@@ -3,15 +3,20 @@
 use Prim.Native.Nat.{ℕ, _+_, min}
 use mathlib.Core.Path.{_≡_, refl, sym, ap, _∙_}
 use mathlib.Core.Bool.{Bool, true, false}
+use mathlib.Core.List.{[]}
 use lib.Dec.{ltb}
 use Rattle.words.specs.Choose.{choose}
 use Rattle.words.specs.declared.Spot.{Spot}
 use Rattle.words.specs.declared.Spot.the-variants.{Nothing, Point}
 use Rattle.rules.specs.declared.Answer.the-variants.{NoRecord}
+use Rattle.rules.specs.declared.Holder.{Holder}
+use Rattle.rules.specs.declared.Holder.the-variants.{Free, Held}
+use Rattle.rules.specs.declared.Strategy.the-variants.{From}
 use Rattle.rules.specs.State.{Given, State, Outcome, goes, stops, goOn, withPieces}
 use Rattle.rules.specs.Slots.{spill}
 use Rattle.rules.specs.Split.{splitPieces, newRecord, split, splitAndQueue, splitIfAny, pick, queueTail, splitAndSpillBy, splitAndSpill}
-use Rattle.split.specs.Turns.{cutting, splitThenSpill}
+use Rattle.rules.specs.Steps.{spillHolder, spillUntil}
+use Rattle.split.specs.Turns.{cutting}
 
 -- what they read
 abbrev pub narrow : Given → Given
@@ -22,14 +27,20 @@ module _ (g : Given) where
   unfolding spill
   spill-narrow s k = refl
 
-  pub queue-narrow : (s : State) (k p : ℕ) → splitAndQueue g s k p ≡ splitAndQueue (narrow g) s k p
+  -- a split reads neither the strategy nor the intervals
+  pub queue-any : (s : State) (k p : ℕ) → splitAndQueue g s k p ≡ splitAndQueue (cutting From [] (g .tables .mentions) (g .tables .safepoints) (g .capacity)) s k p
   unfolding splitAndQueue split
-  queue-narrow s k p = refl
+  queue-any s k p = refl
+
+  -- own spill reads no more than a split and a spill do
+  pub until-any : (s : State) (k f : ℕ) → spillUntil g s k f ≡ spillUntil (cutting From (g .tables .intervals) (g .tables .mentions) (g .tables .safepoints) (g .capacity)) s k f
+  unfolding spillUntil splitAndQueue split spill
+  until-any s k f = refl
 
   pub if-narrow : (s : State) (k : ℕ) (x : Spot) → splitIfAny g s k x ≡ splitIfAny (narrow g) s k x
-  unfolding splitIfAny
+  unfolding splitIfAny splitAndQueue split
   if-narrow s k Nothing = refl
-  if-narrow s k (Point n) = queue-narrow s k n
+  if-narrow s k (Point n) = refl
 
   pub tail-narrow : (s : State) (k p : ℕ) → queueTail g s k p ≡ queueTail (narrow g) s k p
   unfolding queueTail
@@ -53,6 +64,8 @@ module _ (g : Given) where
   unfolding splitAndSpill
   and-narrow s k p = by-narrow s k p _
 
-  pub then-narrow : (s : State) (k p : ℕ) → splitThenSpill g s k p ≡ splitThenSpill (narrow g) s k p
-  unfolding splitAndQueue split spill
-  then-narrow s k p = refl
+  -- what is done to a holder reads no more than a split-and-spill does
+  pub holder-narrow : (s : State) (S : ℕ) (h : Holder) → spillHolder g s S h ≡ spillHolder (narrow g) s S h
+  unfolding spillHolder
+  holder-narrow s S Free = refl
+  holder-narrow s S (Held j) = and-narrow s j S

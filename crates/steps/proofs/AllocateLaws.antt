@@ -1,7 +1,7 @@
 -- Steps 2 and 3 in the work area are those of the rules.
 -- Assumes nothing.
 use Prim.Native.Nat.{ℕ, _+_, _≤_, _<_}
-use mathlib.Core.Path.{_≡_, refl, sym, ap, _∙_}
+use mathlib.Core.Path.{_≡_, sym, ap, _∙_}
 use mathlib.Core.Bool.{Bool, true, false}
 use mathlib.Core.List.{List, []}
 use native.Mathlib.Omega.{arith}
@@ -20,8 +20,8 @@ use Rattle.rules.specs.declared.Pos.{Pos}
 use Rattle.rules.specs.declared.Pos.the-variants.{Blocked, At, Never}
 use Rattle.rules.specs.declared.Strategy.the-variants.{From}
 use Rattle.rules.specs.Uses.{mentionPoints}
-use Rattle.rules.specs.State.{Given, State, Outcome, goes, stops, goOn, piece}
-use Rattle.rules.specs.Split.{split, splitAndQueue, partialPlace}
+use Rattle.rules.specs.State.{Outcome, goes, stops, goOn, piece}
+use Rattle.rules.specs.Split.{splitAndQueue, partialPlace}
 use Rattle.rules.specs.Steps.{takeRegister, allocateBlocked, takeUntil, tryAt, tryTake}
 use Rattle.store.specs.declared.Counts.{Counts}
 use Rattle.store.specs.StateOf.{stateOf, Got}
@@ -31,6 +31,7 @@ use Rattle.split.specs.declared.Turn.{Turn}
 use Rattle.split.specs.declared.Turn.the-variants.{On, Off}
 use Rattle.split.specs.Fit.{Fit}
 use Rattle.split.specs.Turns.{cutting, outcomeOf, Held, Does}
+use Rattle.split.proofs.NarrowLaws.{queue-any}
 use Rattle.split.proofs.TurnLaws.{on-goes, on-went, off-stops}
 use Rattle.steps.specs.Stepping.{stepping, Parting, Stepping, Taking, Took, partialAt, takePart, Stays, ended, refused, Did}
 use Rattle.steps.proofs.TakingLaws.{fit-take}
@@ -96,11 +97,6 @@ module _ (cap : ℕ) (ms ss : List ℕ) where
     unfolding outcomeOf
     part-off a t i = record { meets = rw (off-stops cap ms ss ws ws₁ c x a _ t i); ends = refused a; long = t .long }
 
--- a split reads neither the strategy, nor the intervals, nor the other tables
-queue-any : (n : ℕ) (m : Mode) (cs rs fs is ms ss : List ℕ) (cap : ℕ) (s : State) (k p : ℕ) → splitAndQueue (stepping n m cs rs fs is ms ss cap) s k p ≡ splitAndQueue (cutting From [] ms ss cap) s k p
-unfolding splitAndQueue split
-queue-any n m cs rs fs is ms ss cap s k p = refl
-
 module _ (cap n : ℕ) (m : Mode) (cs rs fs is ms ss ws : List ℕ) (c : Counts) (t : Tracker) (k : ℕ) where
   pub stepping-parting : Stepping cap cs rs fs is ms ss ws c t k → Parting cap ms ss ws c k
   stepping-parting h = record { ready = h .ready; fit = h .fit; inside = h .inside; room = h .room }
@@ -128,7 +124,7 @@ module _ (cap n : ℕ) (m : Mode) (cs rs fs is ms ss ws : List ℕ) (c : Counts)
     unfolding takeUntil
     until-part a p x e i d =
         let v : partialAt m ms (piece (stateOf cap ws c) k) a ≡ Point p = sym e ∙ i in
-        rw (v, queue-any n m cs rs fs is ms ss cap (stateOf cap ws c) k p) d
+        rw (v, queue-any (stepping n m cs rs fs is ms ss cap) (stateOf cap ws c) k p) d
 
     pub until-blocked : (a : ℕ) (x : Spot) → x ≡ partialAt m ms (piece (stateOf cap ws c) k) a → x ≡ Nothing
         → Did cap ms ss ws ws′ c z (allocateBlocked (stepping n m cs rs fs is ms ss cap) (stateOf cap ws c) k)

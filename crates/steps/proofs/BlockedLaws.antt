@@ -26,8 +26,7 @@ use Rattle.rules.specs.declared.Strategy.the-variants.{From}
 use Rattle.rules.specs.Positions.{below}
 use Rattle.rules.specs.Uses.{mentionPoints, isPoint, nextUse}
 use Rattle.rules.specs.State.{Given, State, Outcome, goes, stops, goOn, piece, pointsOf, classOf, fragmentsOf}
-use Rattle.rules.specs.Slots.{spill}
-use Rattle.rules.specs.Split.{split, splitAndQueue, partialSplit}
+use Rattle.rules.specs.Split.{partialSplit}
 use Rattle.rules.specs.Steps.{firstStart, takeRegister, furthest, furthestOf, holder, nextUsePos, onlyScratch, cutAt, cutBefore, spillHolder, spillUntil, takeOver, weigh, blockedBy, allocateBlocked}
 use Rattle.store.specs.declared.Counts.{Counts}
 use Rattle.store.specs.StateOf.{stateOf, Ready, Got}
@@ -46,7 +45,7 @@ use Rattle.split.specs.Turns.{cutting, outcomeOf, HeldOf, Does, off, Spilt}
 use Rattle.uses.specs.Runs.{Rising}
 use Rattle.split.proofs.SpillLaws.{of-rising}
 use Rattle.split.proofs.SpillingLaws.{spilt-does}
-use Rattle.split.proofs.NarrowLaws.{spill-narrow, queue-narrow, and-narrow}
+use Rattle.split.proofs.NarrowLaws.{spill-narrow, queue-any, until-any, and-narrow, holder-narrow}
 use Rattle.steps.specs.declared.blocked.Kind.{Kind}
 use Rattle.steps.specs.Stepping.{firstUse, stepping, placing, Tabled, classFor, HasClass, KindOf, Contending, Weighing, Weighed, Popping, Stepping, takeOverAt, weighBy, Chosen, Did, refused}
 use Rattle.steps.proofs.TakingLaws.{did}
@@ -56,13 +55,9 @@ abbrev placingOf : Given → Given
 placingOf g = placing (g .mode) (g .tables .intervals) (g .tables .mentions) (g .tables .safepoints) (g .capacity)
 
 module _ (g : Given) where
-  until-narrow : (s : State) (k f : ℕ) → spillUntil g s k f ≡ spillUntil (placingOf g) s k f
-  unfolding spillUntil splitAndQueue split spill
-  until-narrow s k f = refl
-
   cut-narrow : (s : State) (k b : ℕ) (x : Spot) → cutAt g s k b x ≡ cutAt (placingOf g) s k b x
   unfolding cutAt
-  cut-narrow s k b (Point p) = queue-narrow g s k p ∙ sym (queue-narrow (placingOf g) s k p)
+  cut-narrow s k b (Point p) = queue-any g s k p ∙ sym (queue-any (placingOf g) s k p)
   cut-narrow s k b Nothing = and-narrow g s k b ∙ sym (and-narrow (placingOf g) s k b)
 
   before-narrow : (s : State) (k : ℕ) (b : Pos) → cutBefore g s k b ≡ cutBefore (placingOf g) s k b
@@ -71,16 +66,11 @@ module _ (g : Given) where
   before-narrow s k (At b) = rw (cut-narrow s k b (partialSplit g (piece s k) b))
   before-narrow s k Never = refl
 
-  holder-narrow : (s : State) (S : ℕ) (h : Holder) → spillHolder g s S h ≡ spillHolder (placingOf g) s S h
-  unfolding spillHolder
-  holder-narrow s S Holder.Free = refl
-  holder-narrow s S (Holder.Held j) = and-narrow g s j S ∙ sym (and-narrow (placingOf g) s j S)
-
   over-narrow : (s : State) (k r : ℕ) (b : Pos) (h : Holder) → takeOverAt g s k r b h ≡ takeOverAt (placingOf g) s k r b h
   over-narrow s k r b h = rw (before-narrow (takeRegister s k r) k b) (go (cutBefore (placingOf g) (takeRegister s k r) k b))
     where
       go : (o : Outcome) → goOn o (λ t. spillHolder g t (piece s k .start) h) ≡ goOn o (λ t. spillHolder (placingOf g) t (piece s k .start) h)
-      go (goes t) = holder-narrow t (piece s k .start) h
+      go (goes t) = holder-narrow g t (piece s k .start) h ∙ sym (holder-narrow (placingOf g) t (piece s k .start) h)
       go (stops a) = refl
 
   -- ---- the weighing: where the block row is the class's, and the choice the furthest of the next uses
@@ -88,7 +78,7 @@ module _ (g : Given) where
       (x : FixedRow (g .tables .registers) (g .tables .fragments) first count (piece s k .start) (piece s k .end) row block) where
     weigh-is : (c : Choice) → c ≡ furthest (nextUsePos g s (piece s k)) scratch first count AllBlocked → weigh g s k f c ≡ weighBy (placingOf g) s k f (posIn block) c
     unfolding weigh weighBy takeOver
-    weigh-is AllBlocked e = until-narrow s k f
+    weigh-is AllBlocked e = until-any g s k f ∙ sym (until-any (placingOf g) s k f)
     weigh-is (Take r p) e = go (below (At f) p) refl
       where
         takes : Takes (nextUsePos g s (piece s k)) scratch first count r p
@@ -103,7 +93,7 @@ module _ (g : Given) where
         go : (b : Bool) → below (At f) p ≡ b
             → choose b (takeOver g s k r) (spillUntil g s k f) ≡ choose b (takeOverAt (placingOf g) s k r (posIn block r) (holder s r)) (spillUntil (placingOf g) s k f)
         go true b = over b
-        go false b = until-narrow s k f
+        go false b = until-any g s k f ∙ sym (until-any (placingOf g) s k f)
 
 -- ---- a row, put into the outer table by class and read again
 row-back : (tab : List (List Pos)) (c : ℕ) (row : List Pos) → tab ≡ replicate 8 (replicate 64 Never) → c < 8 → getD (set tab c row) c [] ≡ row

@@ -22,8 +22,8 @@ use Rattle.rules.specs.declared.Pos.the-variants.{Blocked, At, Never}
 use Rattle.rules.specs.declared.Strategy.{Strategy}
 use Rattle.rules.specs.declared.Strategy.the-variants.{From}
 use Rattle.rules.specs.Uses.{mentionPoints, isPoint}
-use Rattle.rules.specs.State.{Given, State, Outcome, goes, stops, goOn, piece, put, withActive}
-use Rattle.rules.specs.Split.{split, splitAndQueue, splitAndSpill, partialPlace}
+use Rattle.rules.specs.State.{State, Outcome, goes, stops, goOn, piece, put, withActive}
+use Rattle.rules.specs.Split.{splitAndQueue, splitAndSpill, partialPlace}
 use Rattle.rules.specs.Steps.{takeRegister, cutAt, cutBefore, spillHolder}
 use Rattle.store.specs.declared.Counts.{Counts}
 use Rattle.store.specs.StateOf.{stateOf, Ready, After, Got}
@@ -34,7 +34,7 @@ use Rattle.split.specs.Fit.{Fit}
 use Rattle.split.specs.Turns.{cutting, outcomeOf, Held, HeldOf, Went, Turned, on, off, Does}
 use Rattle.split.proofs.FitLaws.{fit-put}
 use Rattle.split.proofs.SpillLaws.{stays}
-use Rattle.split.proofs.NarrowLaws.{and-narrow}
+use Rattle.split.proofs.NarrowLaws.{queue-any, and-narrow, holder-narrow}
 use Rattle.steps.specs.Stepping.{placing, Popping, Taking, Took, Holding, TakesOver, takeOverAt, Stays, Ended, ended, refused, Did}
 
 -- what a turn leaves, where a register may have been taken before it
@@ -74,16 +74,11 @@ module _ (cap : ℕ) (is ms ss : List ℕ) where
 
   -- the piece that was read can be walked
   module _ (m : Mode) (ws : List ℕ) (c : Counts) (k : ℕ) where
-    -- a split reads neither the strategy nor the intervals
-    queue-any : (p : ℕ) → splitAndQueue (cutting From [] ms ss cap) (stateOf cap ws c) k p ≡ splitAndQueue (placing m is ms ss cap) (stateOf cap ws c) k p
-    unfolding splitAndQueue split
-    queue-any p = refl
-
     -- cut where the partial split falls, or by split-and-spill
     pub cut-part : (ws′ : List ℕ) (b p : ℕ) (x : Spot) (r : Turn) → x ≡ Point p → Does cap ms ss ws ws′ c r (splitAndQueue (cutting From [] ms ss cap) (stateOf cap ws c) k p)
         → Does cap ms ss ws ws′ c r (cutAt (placing m is ms ss cap) (stateOf cap ws c) k b x)
     unfolding cutAt
-    cut-part ws′ b p x r e d = record { meets = rw e (d .meets ∙ queue-any p); turned = d .turned; long = d .long }
+    cut-part ws′ b p x r e d = record { meets = rw e (d .meets ∙ sym (queue-any (placing m is ms ss cap) (stateOf cap ws c) k p)); turned = d .turned; long = d .long }
 
     pub cut-spill : (ws′ : List ℕ) (b : ℕ) (y : Strategy) (x : Spot) (r : Turn) → x ≡ Nothing → y ≡ m .strategy → Does cap ms ss ws ws′ c r (splitAndSpill (cutting y is ms ss cap) (stateOf cap ws c) k b)
         → Does cap ms ss ws ws′ c r (cutAt (placing m is ms ss cap) (stateOf cap ws c) k b x)
@@ -134,12 +129,6 @@ module _ (cap : ℕ) (is ms ss : List ℕ) where
     unfolding spillHolder
     robbed ws′ j r e d = record { meets = rw e (d .meets); turned = d .turned; long = d .long }
 
-  -- what is done to a holder reads no more than a split-and-spill does
-  holder-narrow : (m : Mode) (s : State) (S : ℕ) (h : Holder) → spillHolder (placing m is ms ss cap) s S h ≡ spillHolder (cutting (m .strategy) is ms ss cap) s S h
-  unfolding spillHolder
-  holder-narrow m s S holder.Free = refl
-  holder-narrow m s S (holder.Held j) = and-narrow (placing m is ms ss cap) s j S
-
   -- a record that is popped can take a register
   pub popping-taking : (ws : List ℕ) (c : Counts) (k : ℕ) → Popping cap is ms ss ws c k → Taking cap ws c k
   popping-taking ws c k t = record { ready = t .ready; inside = t .inside; room = t .room }
@@ -185,7 +174,7 @@ module _ (cap : ℕ) (is ms ss : List ℕ) where
         let w = ended-stays ws₁ c e x (v .ends) i in
         let g : cutBefore (placing m is ms ss cap) (takeRegister (stateOf cap ws c) k r) k b ≡ goes (stateOf cap ws₁ e) = sym (v .meets) ∙ rw i in
         record {
-          meets = rw (g, ← (t .starts), holder-narrow m (stateOf cap ws₁ e) S h) (rw f at (n .meets));
+          meets = rw (g, ← (t .starts), holder-narrow (placing m is ms ss cap) (stateOf cap ws₁ e) S h) (rw f at (n .meets));
           ends = ended-from cap ms ss ws₂ c e z (w .records) (w .intervals) (n .turned);
           long = n .long ∙ v .long;
         }

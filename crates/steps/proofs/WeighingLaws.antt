@@ -24,9 +24,7 @@ use Rattle.rules.specs.declared.Pos.{Pos}
 use Rattle.rules.specs.declared.Pos.the-variants.{At}
 use Rattle.rules.specs.declared.Strategy.the-variants.{From}
 use Rattle.rules.specs.Positions.{below}
-use Rattle.rules.specs.State.{Given, State, Outcome, goes, stops, goOn, piece}
-use Rattle.rules.specs.Slots.{spill}
-use Rattle.rules.specs.Split.{split, splitAndQueue}
+use Rattle.rules.specs.State.{Given, Outcome, goes, stops, goOn, piece}
 use Rattle.rules.specs.Steps.{isRegister, holderIn, holder, spillUntil}
 use Rattle.store.specs.declared.Counts.{Counts}
 use Rattle.store.specs.StateOf.{stateOf, Ready, Got, GotActive}
@@ -35,7 +33,7 @@ use Rattle.choice.specs.Row.{posIn}
 use Rattle.split.specs.declared.Turn.{Turn}
 use Rattle.split.specs.declared.Turn.the-variants.{On, Off}
 use Rattle.split.specs.Turns.{cutting, outcomeOf, HeldOf, Does, off, splitThenSpill}
-use Rattle.split.proofs.NarrowLaws.{then-narrow}
+use Rattle.split.proofs.NarrowLaws.{until-any}
 use Rattle.steps.specs.Stepping.{placing, Popping, HolderOf, takeOverAt, weighBy, Chosen, Did}
 use Rattle.steps.proofs.TakingLaws.{did}
 
@@ -97,11 +95,6 @@ module _ (cap : ℕ) (is ms ss : List ℕ) where
     unfolding spillUntil
     until-first ws′ r g n d = record { meets = rw (ne-eqb f (piece (stateOf cap ws c) k .start) (rw (← (g .is)) n)) (d .meets); turned = d .turned; long = d .long }
 
-  -- own spill reads no more than a split and a spill do
-  until-narrow : (m : Mode) (s : State) (k f : ℕ) → spillUntil (placing m is ms ss cap) s k f ≡ spillUntil (cutting From is ms ss cap) s k f
-  unfolding spillUntil splitAndQueue split spill
-  until-narrow m s k f = refl
-
   module _ (m : Mode) (ws : List ℕ) (c : Counts) (k : ℕ) where
     pub popping-held : Popping cap is ms ss ws c k → HeldOf cap is ms ss ws c k
     popping-held t = record { ready = t .ready; fit = t .fit; inside = t .inside; rows = t .rows }
@@ -116,13 +109,13 @@ module _ (cap : ℕ) (is ms ss : List ℕ) where
       pub all-blocked : x ≡ AllBlocked → Does cap ms ss ws ws′ c z (spillUntil (cutting From is ms ss cap) (stateOf cap ws c) k f)
           → Did cap ms ss ws ws′ c z (weighBy (placing m is ms ss cap) (stateOf cap ws c) k f (posIn B) x)
       unfolding weighBy
-      all-blocked e d = rw (e, until-narrow m (stateOf cap ws c) k f) (did cap ms ss ws ws′ c z _ d)
+      all-blocked e d = rw (e, until-any (placing m is ms ss cap) (stateOf cap ws c) k f) (did cap ms ss ws ws′ c z _ d)
 
       module _ (r : ℕ) (p : Pos) (t : Bool) (e : x ≡ Take r p) (i : t ≡ below (At f) p) where
         pub weighed-own : t ≡ false → Does cap ms ss ws ws′ c z (spillUntil (cutting From is ms ss cap) (stateOf cap ws c) k f)
             → Did cap ms ss ws ws′ c z (weighBy (placing m is ms ss cap) (stateOf cap ws c) k f (posIn B) x)
         unfolding weighBy
-        weighed-own o d = rw (e, ← i, o, until-narrow m (stateOf cap ws c) k f) (did cap ms ss ws ws′ c z _ d)
+        weighed-own o d = rw (e, ← i, o, until-any (placing m is ms ss cap) (stateOf cap ws c) k f) (did cap ms ss ws ws′ c z _ d)
 
         pub weighed-steal : (b : Pos) → t ≡ true → b ≡ posIn B r → Did cap ms ss ws ws′ c z (takeOverAt (placing m is ms ss cap) (stateOf cap ws c) k r b (holder (stateOf cap ws c) r))
             → Did cap ms ss ws ws′ c z (weighBy (placing m is ms ss cap) (stateOf cap ws c) k f (posIn B) x)

@@ -21,7 +21,8 @@ use Rattle.rules.specs.State.{Given, State, pointsOf, fragmentsOf}
 use Rattle.rules.specs.Steps.{inRegister, fixedActive, firstStart}
 use Rattle.theorems.specs.Invariant.{at, In, InRegOf}
 use Rattle.theorems.proofs.ListLaws.{part-is}
-use Rattle.theorems.proofs.UseLaws.{or-true, Least, next-is}
+use Rattle.rules.proofs.AcceptedLaws.{or-either}
+use Rattle.theorems.proofs.UseLaws.{Least, next-is}
 use Rattle.theorems.proofs.TableLaws.{whose, spans}
 use Rattle.theorems.proofs.FragmentLaws.{within-true, in-table, unfixed-at, StartIs, start-is}
 use Rattle.theorems.proofs.Changes.{nowhere-register}
@@ -34,7 +35,7 @@ unfolding fixedActive
 fixed-has S [] e = let z : _≡_ {A = ℕ} 0 1 = cc in absurd (omega arith)
 fixed-has S (w ∷ ws) e =
     ⊎-elim (λ (a : within (fragmentIn w .first) (fragmentIn w .last) S ≡ true). let o = within-true (fragmentIn w .first) (fragmentIn w .last) S a in (w, List·Memᴰ·head refl, o .0, o .1))
-    (λ (b : fixedActive S ws ≡ true). let r = fixed-has S ws b in (r .0, List·Memᴰ·tail (r .1), r .2, r .3)) (or-true (within (fragmentIn w .first) (fragmentIn w .last) S) (fixedActive S ws) e)
+    (λ (b : fixedActive S ws ≡ true). let r = fixed-has S ws b in (r .0, List·Memᴰ·tail (r .1), r .2, r .3)) (or-either (within (fragmentIn w .first) (fragmentIn w .last) S) (fixedActive S ws) e)
 
 module _ (g : Given) (ok : Accepted (g .tables)) (small : g .capacity ≤ 16384) (S k : ℕ) (s : State) (d : Popped g ok small S k s) where
   abbrev T : Tables

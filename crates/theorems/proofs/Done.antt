@@ -21,12 +21,13 @@ use Rattle.rules.specs.declared.Options.{Options}
 use Rattle.rules.specs.Answers.{number}
 use Rattle.rules.specs.Tables.{Tables}
 use Rattle.rules.specs.Room.{capacity, strategyOf}
-use Rattle.rules.specs.Sound.{andThen, checkTables}
+use Rattle.rules.specs.Sound.{checkTables}
 use Rattle.rules.specs.State.{Outcome, goes}
 use Rattle.rules.specs.Call.{Result, finish, check, given, modeOf, runFor, assignBy, assign, unlessRefused}
 use Rattle.rules.specs.Placement.{Claim}
 use Rattle.rules.specs.Checker.{checkClaim, checkAll, HoldBelow, Checks, accepted}
 use Rattle.rules.proofs.Accepted as sound
+use Rattle.rules.proofs.AcceptedLaws.{then-left}
 use Rattle.rules.proofs.Keeps.{All, on, off}
 use Rattle.rules.proofs.Runs.{Finished}
 use Rattle.rules.proofs.Leaves.{AtEntry, refuses, assign-leaves, check-entry, check-room, call-ends}
@@ -48,13 +49,9 @@ pub record Obeys (T : Tables) (out : List ℕ) (r : Result) : Type 0 where
 not-done : {A : Type 0} (a : Answer) (n t : ℕ) → 2 ≤ number a → a ≡ Done n t → A
 not-done a n t h e = let z : number a ≡ 1 = ap number e in absurd (omega arith)
 
-first-fine : (a b : Check) → andThen a b ≡ Fine → a ≡ Fine
-first-fine Fine b e = refl
-first-fine (Refused a) b e = cc
-
 pub check-tables : (T : Tables) (cap work : ℕ) → check T cap work ≡ Fine → checkTables T ≡ Fine
 unfolding check
-check-tables T cap work e = first-fine (checkTables T) _ e
+check-tables T cap work e = then-left (checkTables T) _ e
 
 -- the run of a call whose checks passed keeps the invariant to its end
 pub call-keeps : (m : Mode) (T : Tables) (cap work : ℕ) → cap ≤ 16384 → check T cap work ≡ Fine → Good (λ s. (l : ℕ) × Inv (given m T cap) l NoOne s) (runFor m T cap)

@@ -131,15 +131,6 @@ keep-passes {a} f (x ∷ l) m = go (f x) refl m (λ n. keep-passes f l n)
     go false e n k = k n
 
 -- ---- how many pass a test that, once failed, is failed by all that follow
-pub count-most : (f : ℕ → Bool) (l : List ℕ) → countOf f l ≤ length l
-unfolding countOf
-count-most f [] = omega arith
-count-most f (x ∷ l) = go (f x) (count-most f l)
-  where
-    go : (b : Bool) → countOf f l ≤ length l → choose b (suc (countOf f l)) (countOf f l) ≤ suc (length l)
-    go true h = omega arith
-    go false h = omega arith
-
 -- none pass
 pub count-none : (f : ℕ → Bool) (l : List ℕ) → ((i : ℕ) → i < length l → f (getD l i 0) ≡ false) → countOf f l ≡ 0
 unfolding countOf

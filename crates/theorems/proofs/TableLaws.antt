@@ -21,7 +21,8 @@ use Rattle.rules.specs.Uses.{atUse, atDef, pointsIn, mentionPoints}
 use Rattle.rules.specs.Split.{countOf, anyBelow, stayingMentions, stayingSafepoints}
 use Rattle.theorems.specs.Invariant.{firstPoint, lastPoint, useAt, Shape}
 use Rattle.theorems.proofs.RunLaws.{Rising, CutAt}
-use Rattle.theorems.proofs.ListLaws.{Prefix, count-most, count-at, length-part, at-part, part-has, part-is}
+use Rattle.rules.proofs.Counts.{count-most}
+use Rattle.theorems.proofs.ListLaws.{Prefix, count-at, length-part, at-part, part-has, part-is}
 use Rattle.theorems.proofs.UseLaws.{any-below, none-below, points-has, points-is}
 
 -- ---- one mention with a flag set

@@ -2,7 +2,7 @@
 -- Assumes nothing.
 use Prim.Native.Nat.{ℕ, _≤_, _<_}
 use mathlib.Core.Path.{_≡_, refl}
-use mathlib.Core.Logic.{_⊎_, inl, inr, ⊎-elim}
+use mathlib.Core.Logic.{⊎-elim}
 use mathlib.Core.Bool.{Bool, true, false, _||_}
 use mathlib.Core.List.{List, [], _∷_, List·Memᴰ, List·Memᴰ·head, List·Memᴰ·tail, List·Memᴰ·append-cases, List·Memᴰ·not-nil, Memᴰ·append-left, Memᴰ·append-right}
 use native.Mathlib.Omega.{arith}
@@ -14,10 +14,7 @@ use Rattle.words.specs.declared.Spot.{Spot}
 use Rattle.words.specs.declared.Spot.the-variants.{Nothing, Point}
 use Rattle.rules.specs.Uses.{lower, greater, pointsIn, mentionPoints, isPoint, nextUse, lastUse}
 use Rattle.rules.specs.Split.{anyBelow}
-
-pub or-true : (a b : Bool) → a || b ≡ true → (a ≡ true) ⊎ (b ≡ true)
-or-true true b e = inl refl
-or-true false b e = inr e
+use Rattle.rules.proofs.AcceptedLaws.{or-either}
 
 pub or-false : (a b : Bool) → a || b ≡ false → (a ≡ false) × (b ≡ false)
 or-false true b e = let z : _≡_ {A = ℕ} 0 1 = cc in absurd (omega arith)
@@ -142,7 +139,7 @@ unfolding anyBelow
 any-below p [] e = let z : _≡_ {A = ℕ} 0 1 = cc in absurd (omega arith)
 any-below p (x ∷ xs) e =
     ⊎-elim (λ (a : ltb x p ≡ true). (x, List·Memᴰ·head refl, ltb-true x p a)) (λ (b : anyBelow p xs ≡ true). let r = any-below p xs b in (r .0, List·Memᴰ·tail (r .1), r .2))
-    (or-true (ltb x p) (anyBelow p xs) e)
+    (or-either (ltb x p) (anyBelow p xs) e)
 
 pub none-below : (p : ℕ) (xs : List ℕ) → anyBelow p xs ≡ false → (x : ℕ) → List·Memᴰ x xs → p ≤ x
 unfolding anyBelow

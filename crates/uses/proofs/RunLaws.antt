@@ -1,16 +1,16 @@
 -- A piece's runs on accepted tables, and runs of runs.
 -- Assumes nothing.
-use Prim.Native.Nat.{ℕ, suc, _-_, _≤_, _<_}
-use mathlib.Core.Bool.{Bool, true, false}
+use Prim.Native.Nat.{ℕ, _≤_, _<_}
+use mathlib.Core.Bool.{Bool}
 use mathlib.Core.List.{List, [], _∷_}
 use native.Mathlib.Omega.{arith}
 use lib.ListN.{length, drop, length-take}
-use Rattle.words.specs.Choose.{choose}
 use Rattle.words.specs.declared.Range.{Range}
 use Rattle.words.specs.Packed.{part, intervalCount}
 use Rattle.rules.specs.Tables.{Tables}
 use Rattle.rules.specs.Accepted.{Accepted, interval}
 use Rattle.rules.specs.Split.{countOf, firstOf, restOf}
+use Rattle.rules.proofs.Counts.{count-most}
 use Rattle.uses.specs.Runs.{Rising, Ascending, SubRange}
 
 -- on accepted tables the mentions of a part of an interval's run rise
@@ -52,14 +52,5 @@ pub sub-rest : (n : ℕ) (r big : Range) → n ≤ r .count → SubRange r big �
 sub-rest n r big h s = record { low = omega arith; high = omega arith }
 
 -- no more stay than there are
-count-most : (f : ℕ → Bool) (l : List ℕ) → countOf f l ≤ length l
-unfolding countOf
-count-most f [] = omega arith
-count-most f (x ∷ xs) = go (f x) (count-most f xs)
-  where
-    go : (b : Bool) → countOf f xs ≤ length xs → choose b (suc (countOf f xs)) (countOf f xs) ≤ length (x ∷ xs)
-    go true h = omega arith
-    go false h = omega arith
-
 pub staying-most : (f : ℕ → Bool) (r : Range) (l : List ℕ) → countOf f (part r l) ≤ r .count
 staying-most f r l = let h = count-most f (part r l) in let k = length-take (r .count) (drop (r .index) l) in omega arith

@@ -14,7 +14,9 @@ returns : tie.Need-returns
 returns c = rw (c .enum-told .given .1)
 
 returns-2 : tie.Need-returns-2
-returns-2 c = rw (c .before .verdict .given .1)
+returns-2 c =
+    let after-verdict : tie.After-verdict = search needs in
+    rw (after-verdict .verdict .given .1)
 
 pub answer-spec : {M : Type 1} → statement M
 answer-spec = tie.close (tie.spec enum-told enum-known-verdict returns returns-2)

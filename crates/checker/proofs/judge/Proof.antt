@@ -13,7 +13,9 @@ slice-aggregate-all-seven-2 : tie.Need-slice-aggregate-all-seven-2
 slice-aggregate-all-seven-2 c = search needs
 
 all-seven-requires : tie.Need-all-seven-requires
-all-seven-requires c κs = (c .before .before .before .before .before .before .before .before .before .pre, (omega arith, omega arith, empty-zeros 65544))
+all-seven-requires c κs =
+    let start : tie.Start = search needs in
+    (start .pre, (omega arith, omega arith, empty-zeros 65544))
 
 returns : tie.Need-returns
 returns c = search needs

@@ -36,7 +36,11 @@ enum-told-2 : tie.Need-enum-told-2
 enum-told-2 c = search needs
 
 assign-checked-requires : tie.Need-assign-checked-requires
-assign-checked-requires c κs = lets-in _ _ _ _ _ (c .before .before .before .before .before .capacity-of .ensures) (c .before .before .before .before .check .ensures) (c .before .before .enum-told2 .given .1)
+assign-checked-requires c κs =
+    let after-enum-told2 : tie.After-enum-told2 = search needs in
+    let after-check : tie.After-check = search needs in
+    let after-capacity-of : tie.After-capacity-of = search needs in
+    lets-in _ _ _ _ _ (after-capacity-of .capacity-of .ensures) (after-check .check .ensures) (after-enum-told2 .enum-told2 .given .1)
 
 same-length-2 : tie.Need-same-length-2
 same-length-2 c = search needs

@@ -3,7 +3,7 @@
 use borrow.Author.Needs.{needs}
 use native.Mathlib.Omega.{arith}
 use Prim.Native.Nat.{_-_}
-use Rattle.assign.proofs.RunLaws.{Going, going-few, going-starts, going-turns, going-empty, going-out, going-settles, going-on, going-off, front-faces}
+use Rattle.assign.proofs.RunLaws.{Going, going-few, going-starts, going-turns, going-empty, going-out, going-tracks, going-faces, going-settles, going-on, going-off}
 use Rattle.assign.proofs.run.run.Statement.{statement}
 use Rattle.assign.proofs.run.run.Tie as tie
 
@@ -33,8 +33,17 @@ returns c = search going-empty
 front-requires : tie.Need-front-requires Inv-loop μ-loop
 front-requires c κs = (search going-turns, search needs)
 
+track-requires : tie.Need-track-requires Inv-loop μ-loop
+track-requires c κs = search going-tracks
+
+mul-old : tie.Need-mul-old Inv-loop μ-loop
+mul-old c = search needs
+
+array-copy-out-old : tie.Need-array-copy-out-old Inv-loop μ-loop
+array-copy-out-old c = search needs
+
 free-row-requires : tie.Need-free-row-requires Inv-loop μ-loop
-free-row-requires c κs = front-faces _ _ _ _ _ _ _ _ _ (c .before .before .before .front .ensures)
+free-row-requires c κs = search going-faces
 
 mul-free : tie.Need-mul-free Inv-loop μ-loop
 mul-free c = search needs
@@ -49,7 +58,12 @@ array-copy-out-row : tie.Need-array-copy-out-row Inv-loop μ-loop
 array-copy-out-row c = search needs
 
 settle-requires : tie.Need-settle-requires Inv-loop μ-loop
-settle-requires c κs = going-settles _ _ _ _ _ _ _ _ _ _ _ _ _ _ _ (c .before .before .before .before .before .before .before .before .before .before .before .loop .inv) _ _ (c .before .before .before .before .before .before .front .ensures) _ (c .before .before .free-row .ensures)
+settle-requires c κs =
+    let after-free-row : tie.After-free-row Inv-loop μ-loop = search needs in
+    let after-track : tie.After-track Inv-loop μ-loop = search needs in
+    let after-front : tie.After-front Inv-loop μ-loop = search needs in
+    let at-loop : tie.At-loop Inv-loop μ-loop = search needs in
+    going-settles _ _ _ _ _ _ _ _ _ _ _ _ _ _ _ (at-loop .loop .inv) _ _ (after-front .front .ensures) _ (after-track .track .ensures) _ (after-free-row .free-row .ensures)
 
 enum-known-settled : tie.Need-enum-known-settled Inv-loop μ-loop
 enum-known-settled c = search needs
@@ -58,19 +72,44 @@ enum-known-settled-2 : tie.Need-enum-known-settled-2 Inv-loop μ-loop
 enum-known-settled-2 c = search needs
 
 same-length-2 : tie.Need-same-length-2 Inv-loop μ-loop
-same-length-2 c = let o = c .before .before .before .before .before .before .before .before .before .before .before .before .before .before .before .before .before .loop .inv in let p = c .before .before .before .before .before .before .before .before .before .before .before .before .front .ensures in let d = c .before .before .before .before .before .settle .ensures in search needs
+same-length-2 c =
+    let after-settle : tie.After-settle Inv-loop μ-loop = search needs in
+    let after-front : tie.After-front Inv-loop μ-loop = search needs in
+    let at-loop : tie.At-loop Inv-loop μ-loop = search needs in
+    search needs
 
 returns-2 : tie.Need-returns-2 Inv-loop μ-loop
-returns-2 c = search going-off
+returns-2 c =
+    let after-settle : tie.After-settle Inv-loop μ-loop = search needs in
+    let after-front : tie.After-front Inv-loop μ-loop = search needs in
+    let at-loop : tie.At-loop Inv-loop μ-loop = search needs in
+    search going-off
 
 add-turn : tie.Need-add-turn Inv-loop μ-loop
-add-turn c = let l = c .before .before .before .before .before .before .before .before .before .before .before .before .before .before .before .before .before .loop-test in let o = c .before .before .before .before .before .before .before .before .before .before .before .before .before .before .before .before .before .before .loop .inv in search needs
+add-turn c =
+    let after-settle : tie.After-settle Inv-loop μ-loop = search needs in
+    let after-front : tie.After-front Inv-loop μ-loop = search needs in
+    let in-loop : tie.In-loop Inv-loop μ-loop = search needs in
+    let at-loop : tie.At-loop Inv-loop μ-loop = search needs in
+    search needs
 
 loop-less : tie.Need-loop-less Inv-loop μ-loop
-loop-less c = let l = c .before .before .before .before .before .before .before .before .before .before .before .before .before .before .before .before .before .loop-test in let o = c .before .before .before .before .before .before .before .before .before .before .before .before .before .before .before .before .before .before .loop .inv in search needs
+loop-less c =
+    let after-settle : tie.After-settle Inv-loop μ-loop = search needs in
+    let after-front : tie.After-front Inv-loop μ-loop = search needs in
+    let in-loop : tie.In-loop Inv-loop μ-loop = search needs in
+    let at-loop : tie.At-loop Inv-loop μ-loop = search needs in
+    search needs
 
 loop-again : tie.Need-loop-again Inv-loop μ-loop
-loop-again c = going-on _ _ _ _ _ _ _ _ _ _ _ _ _ _ _ (c .before .before .before .before .before .before .before .before .before .before .before .before .before .before .before .before .before .before .loop .inv) _ _ (c .before .before .before .before .before .before .before .before .before .before .before .before .before .front .ensures) _ _ (let l = c .before .before .before .before .before .before .before .before .before .before .before .before .before .before .before .before .before .loop-test in omega arith) (c .before .before .before .before .before .before .settle .ensures) _ _ _ (c .before .before .settled .given .1)
+loop-again c =
+    let after-settled : tie.After-settled Inv-loop μ-loop = search needs in
+    let after-settle : tie.After-settle Inv-loop μ-loop = search needs in
+    let after-track : tie.After-track Inv-loop μ-loop = search needs in
+    let after-front : tie.After-front Inv-loop μ-loop = search needs in
+    let in-loop : tie.In-loop Inv-loop μ-loop = search needs in
+    let at-loop : tie.At-loop Inv-loop μ-loop = search needs in
+    search going-on
 
 same-length-3 : tie.Need-same-length-3 Inv-loop μ-loop
 same-length-3 c = search needs
@@ -90,6 +129,9 @@ run-spec =
     same-length
     returns
     front-requires
+    track-requires
+    mul-old
+    array-copy-out-old
     free-row-requires
     mul-free
     array-set-from-free

@@ -23,8 +23,15 @@ try-allocate-reg-requires c κs = search needs
 enum-known-taken : tie.Need-enum-known-taken
 enum-known-taken c = search needs
 
+-- the function's entry, from where steps 2 to 4 are done
+abbrev entry : tie.After-try-allocate-reg → tie.Start
+entry c = search needs
+
 maybe-handle-safepoints-requires : tie.Need-maybe-handle-safepoints-requires
-maybe-handle-safepoints-requires c κs = settle-held _ _ _ _ _ _ _ _ _ _ (c .before .before .before .before .before .before .before .before .before .before .before .before .before .before .before .before .before .before .before .before .before .before .pre) _ _ _ _ _ (c .before .before .before .before .before .before .try-allocate-reg .ensures) _ (c .before .before .taken .given .1)
+maybe-handle-safepoints-requires c κs =
+    let t : tie.After-try-allocate-reg = search needs in
+    let o : tie.After-taken = search needs in
+    settle-held _ _ _ _ _ _ _ _ _ _ _ (entry t .pre) _ _ _ _ _ (t .try-allocate-reg .ensures) _ (o .taken .given .1)
 
 enum-known-taken-2 : tie.Need-enum-known-taken-2
 enum-known-taken-2 c = search needs
@@ -33,7 +40,12 @@ same-length : tie.Need-same-length
 same-length c = search needs
 
 returns : tie.Need-returns
-returns c = settle-on _ _ _ _ _ _ _ _ _ _ (c .before .before .before .before .before .before .before .before .before .before .before .before .before .before .before .before .before .before .before .before .before .before .before .before .before .pre) _ _ _ _ _ (c .before .before .before .before .before .before .before .before .before .try-allocate-reg .ensures) (c .before .before .before .before .before .before .before .before .before .before .before .furthest-of .ensures) _ _ _ (c .before .before .before .before .before .taken .given .1) (c .before .before .maybe-handle-safepoints .ensures)
+returns c =
+    let m : tie.After-maybe-handle-safepoints = search needs in
+    let o : tie.After-taken = search needs in
+    let t : tie.After-try-allocate-reg = search needs in
+    let f : tie.After-furthest-of = search needs in
+    settle-on _ _ _ _ _ _ _ _ _ _ _ (entry t .pre) _ _ _ _ _ (t .try-allocate-reg .ensures) (f .furthest-of .ensures) _ _ _ (o .taken .given .1) (m .maybe-handle-safepoints .ensures)
 
 same-length-2 : tie.Need-same-length-2
 same-length-2 c = search needs

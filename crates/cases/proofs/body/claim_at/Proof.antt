@@ -22,7 +22,10 @@ returns : tie.Need-returns
 returns c = c .missing .ensures _ _
 
 words-in-requires : tie.Need-words-in-requires
-words-in-requires c κs = rest-span _ _ (c .before .before .rest .given .1) (c .before .before .before .before .line-of .ensures)
+words-in-requires c κs =
+    let after-rest : tie.After-rest = search needs in
+    let after-line-of : tie.After-line-of = search needs in
+    rest-span _ _ (after-rest .rest .given .1) (after-line-of .line-of .ensures)
 
 enum-known-w : tie.Need-enum-known-w
 enum-known-w c = search needs
@@ -52,7 +55,7 @@ same-length-3 : tie.Need-same-length-3
 same-length-3 c = search needs
 
 returns-4 : tie.Need-returns-4
-returns-4 c = record { fits = (omega arith, words-fit _ (c .before .before .n .given .1) (c .before .before .before .before .before .before .words-in .ensures)); within = line-within _ _ (c .before .before .before .before .before .before .before .before .before .rest .given .1) (c .before .before .before .before .before .before .before .before .before .before .before .line-of .ensures) }
+returns-4 c = record { fits = (omega arith, search words-fit); within = search line-within }
 
 pub claim-at-spec : {M : Type 1} → statement M
 claim-at-spec =

@@ -27,7 +27,7 @@ returns-2 : tie.Need-returns-2
 returns-2 c = search needs
 
 returns-3 : tie.Need-returns-3
-returns-3 c = record { fits = tt; within = step-within _ (c .before .before .before .step2 .given .1) (c .before .before .before .before .before .before .before .pre) }
+returns-3 c = record { fits = tt; within = search step-within }
 
 pub claim-then-spec : {M : Type 1} → statement M
 claim-then-spec =

@@ -15,7 +15,7 @@ has-line-requires : tie.Need-has-line-requires
 has-line-requires c κs = search needs
 
 returns : tie.Need-returns
-returns c = step-within _ (c .before .before .before .step2 .given .1) (c .before .before .before .before .before .before .pre)
+returns c = search step-within
 
 slice-aggregate-numbers-of : tie.Need-slice-aggregate-numbers-of
 slice-aggregate-numbers-of c = search needs
@@ -33,7 +33,9 @@ returns-2 : tie.Need-returns-2
 returns-2 c = search needs
 
 returns-3 : tie.Need-returns-3
-returns-3 c = c .before .numbers-of .ensures
+returns-3 c =
+    let after-numbers-of : tie.After-numbers-of = search needs in
+    after-numbers-of .numbers-of .ensures
 
 pub room-then-spec : {M : Type 1} → statement M
 room-then-spec =

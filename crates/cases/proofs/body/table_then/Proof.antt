@@ -33,7 +33,11 @@ same-length-2 : tie.Need-same-length-2
 same-length-2 c = search needs
 
 returns-3 : tie.Need-returns-3
-returns-3 c = record { fits = tabled-filled _ _ (c .before .count .given .1) (c .before .before .before .before .before .table-of .ensures) .fits; within = tabled-filled _ _ (c .before .count .given .1) (c .before .before .before .before .before .table-of .ensures) .within }
+returns-3 c =
+    let e : tie.After-count = search needs in
+    let h : tie.After-table-of = search needs in
+    let f = tabled-filled _ _ (e .count .given .1) (h .table-of .ensures) in
+    record { fits = f .fits; within = f .within }
 
 pub table-then-spec : {M : Type 1} → statement M
 table-then-spec =

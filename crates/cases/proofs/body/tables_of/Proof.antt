@@ -22,8 +22,21 @@ table-then-requires-5 c κs = search needs
 table-then-requires-6 : tie.Need-table-then-requires-6
 table-then-requires-6 c κs = search needs
 
+-- the places after the calls, each from the next
+abbrev to-after-table-then3 : tie.After-table-then4 → tie.After-table-then3
+to-after-table-then3 c = search needs
+
+abbrev to-after-table-then2 : tie.After-table-then3 → tie.After-table-then2
+to-after-table-then2 c = search needs
+
+abbrev to-after-table-then : tie.After-table-then2 → tie.After-table-then
+to-after-table-then c = search needs
+
 same-length : tie.Need-same-length
-same-length c = c .before .before .before .before .before .before .before .before .before .before .before .before .before .before .before .before .before .before .before .before .before .before .table-then .kept .1 .1 .1 .0
+same-length c =
+    let after-table-then4 : tie.After-table-then4 = search needs in
+    let after-table-then = to-after-table-then (to-after-table-then2 (to-after-table-then3 after-table-then4)) in
+    after-table-then .table-then .kept .1 .1 .1 .0
 
 same-length-2 : tie.Need-same-length-2
 same-length-2 c = search needs
@@ -41,7 +54,14 @@ same-length-6 : tie.Need-same-length-6
 same-length-6 c = search needs
 
 returns : tie.Need-returns
-returns c = record { counts = record { classes = c .before .before .before .before .before .before .before .before .before .before .before .before .before .before .before .before .before .before .before .before .before .before .table-then .ensures .fits; registers = c .before .before .before .before .before .before .before .before .before .before .before .before .before .before .before .before .before .before .table-then2 .ensures .fits; fragments = c .before .before .before .before .before .before .before .before .before .before .before .before .before .before .table-then3 .ensures .fits; intervals = c .before .before .before .before .before .before .before .before .before .before .table-then4 .ensures .fits; mentions = c .before .before .before .before .before .before .table-then5 .ensures .fits; safepoints = c .before .before .table-then6 .ensures .fits }; within = c .before .before .table-then6 .ensures .within }
+returns c =
+    let after-table-then6 : tie.After-table-then6 = search needs in
+    let after-table-then5 : tie.After-table-then5 = search needs in
+    let after-table-then4 : tie.After-table-then4 = search needs in
+    let after-table-then3 = to-after-table-then3 after-table-then4 in
+    let after-table-then2 = to-after-table-then2 after-table-then3 in
+    let after-table-then = to-after-table-then after-table-then2 in
+    record { counts = record { classes = after-table-then .table-then .ensures .fits; registers = after-table-then2 .table-then2 .ensures .fits; fragments = after-table-then3 .table-then3 .ensures .fits; intervals = after-table-then4 .table-then4 .ensures .fits; mentions = after-table-then5 .table-then5 .ensures .fits; safepoints = after-table-then6 .table-then6 .ensures .fits }; within = after-table-then6 .table-then6 .ensures .within }
 
 pub tables-of-spec : {M : Type 1} → statement M
 tables-of-spec =

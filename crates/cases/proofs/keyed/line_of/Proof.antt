@@ -31,12 +31,8 @@ returns-2 c = search needs
 
 returns-3 : tie.Need-returns-3
 returns-3 c =
-    record {
-      ordered = search needs;
-      high = search needs;
-      later = c .before .before .before .before .before .before .next-line .ensures .later (omega arith);
-      within = search needs;
-    }
+    let after-next-line : tie.After-next-line = search needs in
+    record { ordered = search needs; high = search needs; later = after-next-line .next-line .ensures .later (omega arith); within = search needs }
 
 pub line-of-spec : {M : Type 1} → statement M
 line-of-spec =

@@ -18,7 +18,10 @@ returns : tie.Need-returns
 returns c = search needs
 
 words-in-requires : tie.Need-words-in-requires
-words-in-requires c κs = rest-span _ _ (c .before .before .rest .given .1) (c .before .before .before .before .line-of .ensures)
+words-in-requires c κs =
+    let after-rest : tie.After-rest = search needs in
+    let after-line-of : tie.After-line-of = search needs in
+    rest-span _ _ (after-rest .rest .given .1) (after-line-of .line-of .ensures)
 
 enum-known-n : tie.Need-enum-known-n
 enum-known-n c = search needs
@@ -36,7 +39,7 @@ same-length-2 : tie.Need-same-length-2
 same-length-2 c = search needs
 
 returns-3 : tie.Need-returns-3
-returns-3 c = line-within _ _ (c .before .before .before .before .before .before .before .before .before .rest .given .1) (c .before .before .before .before .before .before .before .before .before .before .before .line-of .ensures)
+returns-3 c = search line-within
 
 same-length-3 : tie.Need-same-length-3
 same-length-3 c = search needs

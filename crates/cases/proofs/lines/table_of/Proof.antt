@@ -18,7 +18,10 @@ returns : tie.Need-returns
 returns c = search needs
 
 words-in-requires : tie.Need-words-in-requires
-words-in-requires c κs = rest-span _ _ (c .before .before .rest .given .1) (c .before .before .before .before .line-of .ensures)
+words-in-requires c κs =
+    let after-rest : tie.After-rest = search needs in
+    let after-line-of : tie.After-line-of = search needs in
+    rest-span _ _ (after-rest .rest .given .1) (after-line-of .line-of .ensures)
 
 enum-known-n : tie.Need-enum-known-n
 enum-known-n c = search needs
@@ -30,7 +33,7 @@ same-length : tie.Need-same-length
 same-length c = search needs
 
 returns-2 : tie.Need-returns-2
-returns-2 c = table-filled _ _ _ (c .before .before .before .before .before .before .before .before .rest .given .1) (c .before .before .before .before .before .before .before .before .before .before .line-of .ensures) (c .before .n .given .1) (c .before .before .before .before .before .words-in .ensures)
+returns-2 c = search table-filled
 
 same-length-2 : tie.Need-same-length-2
 same-length-2 c = search needs

@@ -19,19 +19,25 @@ returns : tie.Need-returns
 returns c = search needs
 
 next-word-requires : tie.Need-next-word-requires
-next-word-requires c κs = rest-span _ _ (c .before .rest .given .1) (c .before .before .before .line-of .ensures)
+next-word-requires c κs =
+    let after-rest : tie.After-rest = search needs in
+    let after-line-of : tie.After-line-of = search needs in
+    rest-span _ _ (after-rest .rest .given .1) (after-line-of .line-of .ensures)
 
 returns-2 : tie.Need-returns-2
 returns-2 c = search needs
 
 next-word-requires-2 : tie.Need-next-word-requires-2
-next-word-requires-2 c κs = (omega arith, rest-span _ _ (c .before .before .before .rest .given .1) (c .before .before .before .before .before .line-of .ensures) .1)
+next-word-requires-2 c κs =
+    let after-rest : tie.After-rest = search needs in
+    let after-line-of : tie.After-line-of = search needs in
+    (omega arith, rest-span _ _ (after-rest .rest .given .1) (after-line-of .line-of .ensures) .1)
 
 returns-3 : tie.Need-returns-3
 returns-3 c = search needs
 
 returns-4 : tie.Need-returns-4
-returns-4 c = title-named _ _ (c .before .before .before .before .before .before .rest .given .1) (c .before .before .before .before .before .before .before .before .line-of .ensures) (c .before .before .before .before .next-word .ensures) (c .before .before .before .if1 .left)
+returns-4 c = search title-named
 
 pub title-of-spec : {M : Type 1} → statement M
 title-of-spec =

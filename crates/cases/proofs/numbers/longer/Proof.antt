@@ -28,7 +28,10 @@ scaled-requires : tie.Need-scaled-requires
 scaled-requires c κs = search needs
 
 add-next : tie.Need-add-next
-add-next c = omega (arith, digit-small (c .before .before .before .before .d .given .1) (c .before .before .before .before .before .before .digit-of .ensures))
+add-next c =
+    let after-d : tie.After-d = search needs in
+    let after-digit-of : tie.After-digit-of = search needs in
+    omega (arith, digit-small (after-d .d .given .1) (after-digit-of .digit-of .ensures))
 
 returns-3 : tie.Need-returns-3
 returns-3 c = search needs

@@ -38,7 +38,9 @@ is-key-requires : tie.Need-is-key-requires Inv-loop μ-loop
 is-key-requires c κs = search needs
 
 returns-2 : tie.Need-returns-2 Inv-loop μ-loop
-returns-2 c = omega (arith, c .before .before .before .before .before .next-line .ensures .later (omega arith))
+returns-2 c =
+    let after-next-line : tie.After-next-line Inv-loop μ-loop = search needs in
+    omega (arith, after-next-line .next-line .ensures .later (omega arith))
 
 sub-is-key-2 : tie.Need-sub-is-key-2 Inv-loop μ-loop
 sub-is-key-2 c = search needs
@@ -56,7 +58,9 @@ returns-3 : tie.Need-returns-3 Inv-loop μ-loop
 returns-3 c = search needs
 
 loop-less : tie.Need-loop-less Inv-loop μ-loop
-loop-less c = omega (arith, c .before .before .before .before .before .before .before .before .next-line .ensures .later (omega arith))
+loop-less c =
+    let after-next-line : tie.After-next-line Inv-loop μ-loop = search needs in
+    omega (arith, after-next-line .next-line .ensures .later (omega arith))
 
 loop-again : tie.Need-loop-again Inv-loop μ-loop
 loop-again c = search needs

@@ -1,6 +1,6 @@
 -- `cases::reader::trouble` meets its contract: the place to go on from is at the first line's end or later.
 -- Assumes nothing.
-use mathlib.Core.Path.{refl}
+use Rattle.cases.proofs.ReadLaws.{told-further}
 use borrow.Author.Needs.{needs}
 use Rattle.cases.proofs.reader.trouble.Statement.{statement}
 use Rattle.cases.proofs.reader.trouble.Tie as tie
@@ -15,7 +15,7 @@ further-requires : tie.Need-further-requires
 further-requires c κs = search needs
 
 returns : tie.Need-returns
-returns c = record { names = refl; later = c .further .ensures _ (c .before .recovered .ensures) (c .before .before .before .before .before .pre) .0; within = c .further .ensures _ (c .before .recovered .ensures) (c .before .before .before .before .before .pre) .1 }
+returns c = search told-further
 
 pub trouble-spec : {M : Type 1} → statement M
 trouble-spec = tie.close (tie.spec next-line-requires recovered-requires further-requires returns)

@@ -33,7 +33,11 @@ shared-slice-read-x : tie.Need-shared-slice-read-x Inv-loop μ-loop
 shared-slice-read-x c = search needs
 
 returns : tie.Need-returns Inv-loop μ-loop
-returns c = ended-breaks _ _ _ _ _ _ _ (c .before .before .before .before .before .before .before .before .before .pre) (c .before .before .before .before .loop-test .taken) (c .before .before .before .interval-at .ensures) refl (c .if1 .taken)
+returns c =
+    let after-interval-at : tie.After-interval-at Inv-loop μ-loop = search needs in
+    let in-loop : tie.In-loop Inv-loop μ-loop = search needs in
+    let start : tie.Start Inv-loop μ-loop = search needs in
+    ended-breaks _ _ _ _ _ _ _ (start .pre) (in-loop .loop-test .taken) (after-interval-at .interval-at .ensures) refl (c .if1 .taken)
 
 add-v : tie.Need-add-v Inv-loop μ-loop
 add-v c = search needs

@@ -29,10 +29,14 @@ same-length : tie.Need-same-length Inv-loop μ-loop
 same-length c = search needs
 
 returns : tie.Need-returns Inv-loop μ-loop
-returns c = joining-ends _ _ _ _ _ _ (c .before .before .loop .inv) (c .enum-told .given .1)
+returns c = search joining-ends
 
 seated-requires : tie.Need-seated-requires Inv-loop μ-loop
-seated-requires c κs = (c .before .before .before .before .before .before .before .before .before .before .pre .1 .1 .0, due _ _ _ _ _ (c .before .before .before .loop .inv .least) (c .before .turn .given .1) .real, c .before .before .before .before .before .before .before .before .before .before .pre .0 .there)
+seated-requires c κs =
+    let after-turn : tie.After-turn Inv-loop μ-loop = search needs in
+    let at-loop : tie.At-loop Inv-loop μ-loop = search needs in
+    let start : tie.Start Inv-loop μ-loop = search needs in
+    (start .pre .1 .1 .0, due _ _ _ _ _ (at-loop .loop .inv .least) (after-turn .turn .given .1) .real, start .pre .0 .there)
 
 cast-v : tie.Need-cast-v Inv-loop μ-loop
 cast-v c = search needs
@@ -50,7 +54,12 @@ same-length-2 : tie.Need-same-length-2 Inv-loop μ-loop
 same-length-2 c = search needs
 
 returns-2 : tie.Need-returns-2 Inv-loop μ-loop
-returns-2 c = joining-breaks _ _ _ _ _ _ _ _ (c .before .before .before .before .before .before .before .before .loop .inv) (c .before .before .before .before .before .before .before .before .before .before .before .before .before .before .before .pre .1 .1 .0) (c .before .before .before .before .before .before .before .before .before .before .before .before .before .before .before .pre .0 .few) (c .before .before .before .before .before .before .turn .given .1) (c .before .before .before .before .seated .ensures) (c .if1 .taken)
+returns-2 c =
+    let after-seated : tie.After-seated Inv-loop μ-loop = search needs in
+    let after-turn : tie.After-turn Inv-loop μ-loop = search needs in
+    let at-loop : tie.At-loop Inv-loop μ-loop = search needs in
+    let start : tie.Start Inv-loop μ-loop = search needs in
+    search joining-breaks
 
 cast-expect : tie.Need-cast-expect Inv-loop μ-loop
 cast-expect c = search needs
@@ -65,13 +74,27 @@ slice-write-expect : tie.Need-slice-write-expect Inv-loop μ-loop
 slice-write-expect c = search needs
 
 following-requires : tie.Need-following-requires Inv-loop μ-loop
-following-requires c κs = (c .before .before .before .before .before .before .before .before .before .before .before .before .before .before .before .before .pre .0, (due _ _ _ _ _ (c .before .before .before .before .before .before .before .before .before .loop .inv .least) (c .before .before .before .before .before .before .before .turn .given .1) .real, c .before .before .before .before .before .before .before .before .before .before .before .before .before .before .before .before .pre .1 .0))
+following-requires c κs =
+    let after-turn : tie.After-turn Inv-loop μ-loop = search needs in
+    let at-loop : tie.At-loop Inv-loop μ-loop = search needs in
+    let start : tie.Start Inv-loop μ-loop = search needs in
+    (start .pre .0, (due _ _ _ _ _ (at-loop .loop .inv .least) (after-turn .turn .given .1) .real, start .pre .1 .0))
 
 loop-less : tie.Need-loop-less Inv-loop μ-loop
-loop-less c = left-less _ _ _ _ _ _ (c .before .before .before .before .before .before .before .before .before .before .before .before .before .before .before .before .before .pre .1 .0) (due _ _ _ _ _ (c .before .before .before .before .before .before .before .before .before .before .loop .inv .least) (c .before .before .before .before .before .before .before .before .turn .given .1) .real) (c .before .before .before .before .before .before .before .before .turn .given .1) (c .following .ensures)
+loop-less c =
+    let after-turn : tie.After-turn Inv-loop μ-loop = search needs in
+    let at-loop : tie.At-loop Inv-loop μ-loop = search needs in
+    let start : tie.Start Inv-loop μ-loop = search needs in
+    left-less _ _ _ _ _ _ (start .pre .1 .0) (due _ _ _ _ _ (at-loop .loop .inv .least) (after-turn .turn .given .1) .real) (after-turn .turn .given .1) (c .following .ensures)
 
 loop-again : tie.Need-loop-again Inv-loop μ-loop
-loop-again c = joining-more _ _ _ _ _ _ _ _ (c .before .before .before .before .before .before .before .before .before .before .loop .inv) (c .before .before .before .before .before .before .before .before .before .before .before .before .before .before .before .before .before .pre .1 .1 .0) (c .before .before .before .before .before .before .before .before .before .before .before .before .before .before .before .before .before .pre .0 .few) (c .before .before .before .before .before .before .before .before .turn .given .1) (c .before .before .before .before .before .before .seated .ensures) _ _ (c .before .before .if1 .left) refl (c .following .ensures)
+loop-again c =
+    let else1 : tie.Else1 Inv-loop μ-loop = search needs in
+    let after-seated : tie.After-seated Inv-loop μ-loop = search needs in
+    let after-turn : tie.After-turn Inv-loop μ-loop = search needs in
+    let at-loop : tie.At-loop Inv-loop μ-loop = search needs in
+    let start : tie.Start Inv-loop μ-loop = search needs in
+    search joining-more
 
 pub joined-spec : {M : Type 1} → statement M
 joined-spec =

@@ -15,16 +15,22 @@ slice-aggregate-joined : tie.Need-slice-aggregate-joined
 slice-aggregate-joined c = search needs
 
 joined-requires : tie.Need-joined-requires
-joined-requires c κs = (c .before .before .before .before .before .before .before .before .pre .0, (c .before .before .before .before .before .before .before .before .pre .1 .0, (c .before .before .before .before .before .before .before .before .pre .1 .1 .0, (c .before .before .before .before .before .before .before .before .pre .1 .1 .1 .1, c .before .before .starts .ensures))))
+joined-requires c κs =
+    let after-starts : tie.After-starts = search needs in
+    let start : tie.Start = search needs in
+    (start .pre .0, (start .pre .1 .0, (start .pre .1 .1 .0, (start .pre .1 .1 .1 .1, after-starts .starts .ensures))))
 
 returns : tie.Need-returns
-returns c = tiled-broken _ _ _ _ _ (c .before .before .joined .ensures) (c .if1 .taken)
+returns c = search tiled-broken
 
 slice-aggregate-ended : tie.Need-slice-aggregate-ended
 slice-aggregate-ended c = search needs
 
 ended-requires : tie.Need-ended-requires
-ended-requires c κs = tiled-fronted _ _ _ _ _ (c .before .before .before .joined .ensures) (c .before .if1 .left)
+ended-requires c κs =
+    let else1 : tie.Else1 = search needs in
+    let after-joined : tie.After-joined = search needs in
+    tiled-fronted _ _ _ _ _ (after-joined .joined .ensures) (else1 .if1 .left)
 
 returns-2 : tie.Need-returns-2
 returns-2 c = search needs

@@ -21,10 +21,14 @@ end-of-requires : tie.Need-end-of-requires
 end-of-requires c κs = search needs
 
 fits-in-requires : tie.Need-fits-in-requires
-fits-in-requires c κs = (row-of _ _ _ _ _ _ _ (c .before .before .before .before .before .seated .ensures) (c .before .before .before .interval-at .ensures) (c .end-of .ensures) (c .before .before .before .before .before .before .before .before .before .pre .0 .0), ordered _ _ _ _ _ (c .before .before .before .before .before .before .before .before .before .pre .0 .1) (c .before .before .before .before .before .before .before .before .before .pre .1 .0) (c .before .before .before .before .before .seated .ensures))
+fits-in-requires c κs =
+    let after-interval-at : tie.After-interval-at = search needs in
+    let after-seated : tie.After-seated = search needs in
+    let start : tie.Start = search needs in
+    (row-of _ _ _ _ _ _ _ (after-seated .seated .ensures) (after-interval-at .interval-at .ensures) (c .end-of .ensures) (start .pre .0 .0), ordered _ _ _ _ _ (start .pre .0 .1) (start .pre .1 .0) (after-seated .seated .ensures))
 
 returns : tie.Need-returns
-returns c = fits-of _ _ _ _ _ _ _ (c .before .before .before .before .before .before .seated .ensures) (c .before .before .before .before .interval-at .ensures) (c .before .end-of .ensures) _ (c .fits-in .ensures)
+returns c = search fits-of
 
 pub fits-spec : {M : Type 1} → statement M
 fits-spec =

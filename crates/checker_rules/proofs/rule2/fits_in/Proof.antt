@@ -28,13 +28,21 @@ shared-slice-read-w : tie.Need-shared-slice-read-w Inv-loop μ-loop
 shared-slice-read-w c = search needs
 
 lowest-requires : tie.Need-lowest-requires Inv-loop μ-loop
-lowest-requires c κs = c .before .before .before .before .before .pre .0 .pointed _ (c .before .before .loop .inv .from) (c .before .loop-test .taken)
+lowest-requires c κs =
+    let in-loop : tie.In-loop Inv-loop μ-loop = search needs in
+    let at-loop : tie.At-loop Inv-loop μ-loop = search needs in
+    let start : tie.Start Inv-loop μ-loop = search needs in
+    start .pre .0 .pointed _ (at-loop .loop .inv .from) (in-loop .loop-test .taken)
 
 returns : tie.Need-returns Inv-loop μ-loop
 returns c = search fits-past
 
 whole-requires : tie.Need-whole-requires Inv-loop μ-loop
-whole-requires c κs = (c .before .before .before .before .before .before .before .pre .0 .pointed _ (c .before .before .before .before .loop .inv .from) (c .before .before .before .loop-test .taken), c .before .before .before .before .before .before .before .pre .1)
+whole-requires c κs =
+    let in-loop : tie.In-loop Inv-loop μ-loop = search needs in
+    let at-loop : tie.At-loop Inv-loop μ-loop = search needs in
+    let start : tie.Start Inv-loop μ-loop = search needs in
+    (start .pre .0 .pointed _ (at-loop .loop .inv .from) (in-loop .loop-test .taken), start .pre .1)
 
 returns-2 : tie.Need-returns-2 Inv-loop μ-loop
 returns-2 c = search fits-breaks

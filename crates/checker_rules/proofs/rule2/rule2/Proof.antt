@@ -21,7 +21,11 @@ fits-requires : tie.Need-fits-requires Inv-loop μ-loop
 fits-requires c κs = search needs
 
 returns : tie.Need-returns Inv-loop μ-loop
-returns c = rule2-breaks _ _ _ _ (c .before .before .before .before .before .before .before .pre .0 .0) (c .before .before .before .before .before .before .before .pre .0 .1) (each-breaks (λ j. Fits _ _ _ j) _ _ _ (c .before .before .loop-test .taken) (c .before .fits2 .ensures) (c .if1 .taken))
+returns c =
+    let after-fits2 : tie.After-fits2 Inv-loop μ-loop = search needs in
+    let in-loop : tie.In-loop Inv-loop μ-loop = search needs in
+    let start : tie.Start Inv-loop μ-loop = search needs in
+    rule2-breaks _ _ _ _ (start .pre .0 .0) (start .pre .0 .1) (each-breaks (λ j. Fits _ _ _ j) _ _ _ (in-loop .loop-test .taken) (after-fits2 .fits2 .ensures) (c .if1 .taken))
 
 add-k : tie.Need-add-k Inv-loop μ-loop
 add-k c = search needs
@@ -30,10 +34,13 @@ loop-less : tie.Need-loop-less Inv-loop μ-loop
 loop-less c = search needs
 
 loop-again : tie.Need-loop-again Inv-loop μ-loop
-loop-again c = each-more _ _ _ _ (c .before .before .before .loop .inv) (c .before .before .loop-test .taken) (c .before .fits2 .ensures) (c .if1 .left)
+loop-again c = search each-more
 
 returns-2 : tie.Need-returns-2 Inv-loop μ-loop
-returns-2 c = rule2-holds _ _ _ _ (c .before .before .before .before .before .pre .0 .0) (c .before .before .before .before .before .pre .0 .1) (each-ends _ _ _ (c .before .loop .inv) (c .loop-test .left))
+returns-2 c =
+    let at-loop : tie.At-loop Inv-loop μ-loop = search needs in
+    let start : tie.Start Inv-loop μ-loop = search needs in
+    rule2-holds _ _ _ _ (start .pre .0 .0) (start .pre .0 .1) (each-ends _ _ _ (at-loop .loop .inv) (c .loop-test .left))
 
 pub rule2-spec : {M : Type 1} → statement M
 rule2-spec =

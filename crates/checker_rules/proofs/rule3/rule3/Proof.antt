@@ -21,7 +21,10 @@ suits-requires : tie.Need-suits-requires Inv-loop μ-loop
 suits-requires c κs = search needs
 
 returns : tie.Need-returns Inv-loop μ-loop
-returns c = rule3-breaks _ _ _ _ (each-breaks (λ j. Suits _ _ _ j) _ _ _ (c .before .before .loop-test .taken) (c .before .suits .ensures) (c .if1 .taken))
+returns c =
+    let after-suits : tie.After-suits Inv-loop μ-loop = search needs in
+    let in-loop : tie.In-loop Inv-loop μ-loop = search needs in
+    rule3-breaks _ _ _ _ (each-breaks (λ j. Suits _ _ _ j) _ _ _ (in-loop .loop-test .taken) (after-suits .suits .ensures) (c .if1 .taken))
 
 add-k : tie.Need-add-k Inv-loop μ-loop
 add-k c = search needs
@@ -30,10 +33,12 @@ loop-less : tie.Need-loop-less Inv-loop μ-loop
 loop-less c = search needs
 
 loop-again : tie.Need-loop-again Inv-loop μ-loop
-loop-again c = each-more _ _ _ _ (c .before .before .before .loop .inv) (c .before .before .loop-test .taken) (c .before .suits .ensures) (c .if1 .left)
+loop-again c = search each-more
 
 returns-2 : tie.Need-returns-2 Inv-loop μ-loop
-returns-2 c = rule3-holds _ _ _ _ (each-ends _ _ _ (c .before .loop .inv) (c .loop-test .left))
+returns-2 c =
+    let at-loop : tie.At-loop Inv-loop μ-loop = search needs in
+    rule3-holds _ _ _ _ (each-ends _ _ _ (at-loop .loop .inv) (c .loop-test .left))
 
 pub rule3-spec : {M : Type 1} → statement M
 rule3-spec =

@@ -13,7 +13,9 @@ returns : tie.Need-returns
 returns c = search class-low
 
 add-if2 : tie.Need-add-if2
-add-if2 c = omega (arith, class-end _ _ (c .before .before .before .class-in .ensures))
+add-if2 c =
+    let after-class-in : tie.After-class-in = search needs in
+    omega (arith, class-end _ _ (after-class-in .class-in .ensures))
 
 returns-2 : tie.Need-returns-2
 returns-2 c = search class-high

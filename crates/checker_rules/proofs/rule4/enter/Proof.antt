@@ -19,7 +19,10 @@ mul-if2 : tie.Need-mul-if2
 mul-if2 c = search needs
 
 slice-read-if2 : tie.Need-slice-read-if2
-slice-read-if2 c = omega (arith, c .before .before .before .before .before .pre .1 (c .before .before .before .if1 .left))
+slice-read-if2 c =
+    let else1 : tie.Else1 = search needs in
+    let start : tie.Start = search needs in
+    omega (arith, start .pre .1 (else1 .if1 .left))
 
 returns-2 : tie.Need-returns-2
 returns-2 c = search enter-clash
@@ -34,7 +37,10 @@ mul-free : tie.Need-mul-free
 mul-free c = search needs
 
 slice-write-free : tie.Need-slice-write-free
-slice-write-free c = omega (arith, c .before .before .before .before .before .before .before .pre .1 (c .before .before .before .before .before .if1 .left))
+slice-write-free c =
+    let else1 : tie.Else1 = search needs in
+    let start : tie.Start = search needs in
+    omega (arith, start .pre .1 (else1 .if1 .left))
 
 same-length : tie.Need-same-length
 same-length c = search needs

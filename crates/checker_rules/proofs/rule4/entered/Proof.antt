@@ -17,7 +17,7 @@ from-requires : tie.Need-from-requires Inv-loop μ-loop
 from-requires c κs = search needs
 
 loop-holds : tie.Need-loop-holds Inv-loop μ-loop
-loop-holds c = entering-starts _ _ _ _ (c .before .before .before .before .before .pre .1 .1 .1 .1) (c .before .before .before .before .before .pre .1 .1 .1 .0) (c .from .ensures)
+loop-holds c = search entering-starts
 
 enum-known-turn : tie.Need-enum-known-turn Inv-loop μ-loop
 enum-known-turn c = search needs
@@ -29,28 +29,56 @@ same-length : tie.Need-same-length Inv-loop μ-loop
 same-length c = search needs
 
 returns : tie.Need-returns Inv-loop μ-loop
-returns c = entering-ends _ _ _ _ _ (c .before .before .loop .inv) (c .enum-told .given .1)
+returns c = search entering-ends
 
 record-at-requires : tie.Need-record-at-requires Inv-loop μ-loop
-record-at-requires c κs = omega (arith, due _ _ _ _ _ (c .before .before .before .loop .inv .least) (c .before .turn .given .1) .real, c .before .before .before .before .before .before .before .before .before .pre .0 .there)
+record-at-requires c κs =
+    let after-turn : tie.After-turn Inv-loop μ-loop = search needs in
+    let at-loop : tie.At-loop Inv-loop μ-loop = search needs in
+    let start : tie.Start Inv-loop μ-loop = search needs in
+    omega (arith, due _ _ _ _ _ (at-loop .loop .inv .least) (after-turn .turn .given .1) .real, start .pre .0 .there)
+
+-- places further back
+abbrev to-start : tie.At-loop Inv-loop μ-loop → tie.Start Inv-loop μ-loop
+to-start c = search needs
 
 enter-requires : tie.Need-enter-requires Inv-loop μ-loop
-enter-requires c κs = (search needs, λ e. enters _ _ _ _ (c .before .before .before .before .before .before .before .before .before .before .before .pre .1 .1 .0) (due _ _ _ _ _ (c .before .before .before .before .before .loop .inv .least) (c .before .before .before .turn .given .1) .real) (c .before .record-at .ensures) e)
+enter-requires c κs =
+    let after-record-at : tie.After-record-at Inv-loop μ-loop = search needs in
+    let after-turn : tie.After-turn Inv-loop μ-loop = search needs in
+    let at-loop : tie.At-loop Inv-loop μ-loop = search needs in
+    let start = to-start at-loop in
+    (search needs, λ e. enters _ _ _ _ (start .pre .1 .1 .0) (due _ _ _ _ _ (at-loop .loop .inv .least) (after-turn .turn .given .1) .real) (after-record-at .record-at .ensures) e)
 
 same-length-2 : tie.Need-same-length-2 Inv-loop μ-loop
 same-length-2 c = search needs
 
 returns-2 : tie.Need-returns-2 Inv-loop μ-loop
-returns-2 c = entering-breaks _ _ _ _ _ _ _ _ _ (c .before .before .before .before .before .before .before .before .before .loop .inv) (c .before .before .before .before .before .before .before .before .before .before .before .before .before .before .before .pre .1 .1 .0) (c .before .before .before .before .before .before .before .before .before .before .before .before .before .before .before .pre .0 .few) (c .before .before .before .before .before .before .before .turn .given .1) (c .before .before .before .before .before .record-at .ensures) (c .before .before .before .enter .ensures) (c .if1 .taken)
+returns-2 c = search entering-breaks
 
 following-requires : tie.Need-following-requires Inv-loop μ-loop
-following-requires c κs = (c .before .before .before .before .before .before .before .before .before .before .before .before .before .before .before .pre .0, (due _ _ _ _ _ (c .before .before .before .before .before .before .before .before .before .loop .inv .least) (c .before .before .before .before .before .before .before .turn .given .1) .real, c .before .before .before .before .before .before .before .before .before .before .before .before .before .before .before .pre .1 .0))
+following-requires c κs =
+    let after-turn : tie.After-turn Inv-loop μ-loop = search needs in
+    let at-loop : tie.At-loop Inv-loop μ-loop = search needs in
+    let start = to-start at-loop in
+    (start .pre .0, (due _ _ _ _ _ (at-loop .loop .inv .least) (after-turn .turn .given .1) .real, start .pre .1 .0))
 
 loop-less : tie.Need-loop-less Inv-loop μ-loop
-loop-less c = left-less _ _ _ _ _ _ (c .before .before .before .before .before .before .before .before .before .before .before .before .before .before .before .before .pre .1 .0) (due _ _ _ _ _ (c .before .before .before .before .before .before .before .before .before .before .loop .inv .least) (c .before .before .before .before .before .before .before .before .turn .given .1) .real) (c .before .before .before .before .before .before .before .before .turn .given .1) (c .following .ensures)
+loop-less c =
+    let after-turn : tie.After-turn Inv-loop μ-loop = search needs in
+    let at-loop : tie.At-loop Inv-loop μ-loop = search needs in
+    let start = to-start at-loop in
+    left-less _ _ _ _ _ _ (start .pre .1 .0) (due _ _ _ _ _ (at-loop .loop .inv .least) (after-turn .turn .given .1) .real) (after-turn .turn .given .1) (c .following .ensures)
 
 loop-again : tie.Need-loop-again Inv-loop μ-loop
-loop-again c = entering-more _ _ _ _ _ _ _ _ _ (c .before .before .before .before .before .before .before .before .before .before .loop .inv) (c .before .before .before .before .before .before .before .before .before .before .before .before .before .before .before .before .pre .1 .1 .0) (c .before .before .before .before .before .before .before .before .before .before .before .before .before .before .before .before .pre .0 .few) (c .before .before .before .before .before .before .before .before .turn .given .1) (c .before .before .before .before .before .before .record-at .ensures) (c .before .before .before .before .enter .ensures) _ (c .before .if1 .left) (c .following .ensures)
+loop-again c =
+    let else1 : tie.Else1 Inv-loop μ-loop = search needs in
+    let after-enter : tie.After-enter Inv-loop μ-loop = search needs in
+    let after-record-at : tie.After-record-at Inv-loop μ-loop = search needs in
+    let after-turn : tie.After-turn Inv-loop μ-loop = search needs in
+    let at-loop : tie.At-loop Inv-loop μ-loop = search needs in
+    let start = to-start at-loop in
+    entering-more _ _ _ _ _ _ _ _ _ (at-loop .loop .inv) (start .pre .1 .1 .0) (start .pre .0 .few) (after-turn .turn .given .1) (after-record-at .record-at .ensures) (after-enter .enter .ensures) _ (else1 .if1 .left) (c .following .ensures)
 
 pub entered-spec : {M : Type 1} → statement M
 entered-spec =

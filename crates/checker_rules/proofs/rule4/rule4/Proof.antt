@@ -10,10 +10,12 @@ slice-aggregate-entered : tie.Need-slice-aggregate-entered
 slice-aggregate-entered c = search needs
 
 entered-requires : tie.Need-entered-requires
-entered-requires c κs = (c .before .before .before .before .pre .0, (c .before .before .before .before .pre .1 .0, (c .before .before .before .before .pre .1 .1, (search needs, empty-zeros 64))))
+entered-requires c κs =
+    let start : tie.Start = search needs in
+    (start .pre .0, (start .pre .1 .0, (start .pre .1 .1, (search needs, empty-zeros 64))))
 
 returns : tie.Need-returns
-returns c = decides-4 _ _ _ (c .before .entered .ensures)
+returns c = search decides-4
 
 pub rule4-spec : {M : Type 1} → statement M
 rule4-spec = tie.close (tie.spec slice-aggregate-entered entered-requires returns)

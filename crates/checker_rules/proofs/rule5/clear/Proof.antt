@@ -29,14 +29,23 @@ cast-meets c = search needs
 end-of-requires : tie.Need-end-of-requires
 end-of-requires c κs = search needs
 
+-- places further back
+abbrev to-start : tie.After-record-at → tie.Start
+to-start c = search needs
+
 meets-requires : tie.Need-meets-requires
-meets-requires c κs = (run-of _ _ _ _ _ _ (c .before .before .before .before .before .before .before .record-at .ensures) (c .before .before .before .before .before .before .before .before .before .before .before .pre .0 .1) (c .before .before .before .before .before .before .before .before .before .before .before .pre .1 .0) _ _ (c .before .before .before .before .before .before .before .before .before .before .before .pre .0 .0) (c .before .before .before .before .before .if1 .left) (c .before .before .range-in .ensures) (c .end-of .ensures), search ordered-of)
+meets-requires c κs =
+    let after-range-in : tie.After-range-in = search needs in
+    let else1 : tie.Else1 = search needs in
+    let after-record-at : tie.After-record-at = search needs in
+    let start = to-start after-record-at in
+    (run-of _ _ _ _ _ _ (after-record-at .record-at .ensures) (start .pre .0 .1) (start .pre .1 .0) _ _ (start .pre .0 .0) (else1 .if1 .left) (after-range-in .range-in .ensures) (c .end-of .ensures), search ordered-of)
 
 returns-2 : tie.Need-returns-2
-returns-2 c = clear-meets _ _ _ _ _ (c .before .before .before .before .before .before .before .before .before .record-at .ensures) _ _ _ (c .before .before .before .before .range-in .ensures) (c .before .before .end-of .ensures) (c .before .meets .ensures) (c .before .before .before .before .before .before .before .if1 .left) (c .if2 .taken)
+returns-2 c = search clear-meets
 
 returns-3 : tie.Need-returns-3
-returns-3 c = clear-not _ _ _ _ _ (c .before .before .before .before .before .before .before .before .before .record-at .ensures) _ _ _ (c .before .before .before .before .range-in .ensures) (c .before .before .end-of .ensures) (c .before .meets .ensures) (c .before .before .before .before .before .before .before .if1 .left) (c .if2 .left)
+returns-3 c = search clear-not
 
 pub clear-spec : {M : Type 1} → statement M
 clear-spec =

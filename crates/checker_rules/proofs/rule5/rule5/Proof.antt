@@ -21,7 +21,10 @@ clear-requires : tie.Need-clear-requires Inv-loop μ-loop
 clear-requires c κs = search needs
 
 returns : tie.Need-returns Inv-loop μ-loop
-returns c = rule5-breaks _ _ _ _ (each-breaks (λ j. Clear _ _ _ j) _ _ _ (c .before .before .loop-test .taken) (c .before .clear .ensures) (c .if1 .taken))
+returns c =
+    let after-clear : tie.After-clear Inv-loop μ-loop = search needs in
+    let in-loop : tie.In-loop Inv-loop μ-loop = search needs in
+    rule5-breaks _ _ _ _ (each-breaks (λ j. Clear _ _ _ j) _ _ _ (in-loop .loop-test .taken) (after-clear .clear .ensures) (c .if1 .taken))
 
 add-k : tie.Need-add-k Inv-loop μ-loop
 add-k c = search needs
@@ -30,10 +33,12 @@ loop-less : tie.Need-loop-less Inv-loop μ-loop
 loop-less c = search needs
 
 loop-again : tie.Need-loop-again Inv-loop μ-loop
-loop-again c = each-more _ _ _ _ (c .before .before .before .loop .inv) (c .before .before .loop-test .taken) (c .before .clear .ensures) (c .if1 .left)
+loop-again c = search each-more
 
 returns-2 : tie.Need-returns-2 Inv-loop μ-loop
-returns-2 c = rule5-holds _ _ _ _ (each-ends _ _ _ (c .before .loop .inv) (c .loop-test .left))
+returns-2 c =
+    let at-loop : tie.At-loop Inv-loop μ-loop = search needs in
+    rule5-holds _ _ _ _ (each-ends _ _ _ (at-loop .loop .inv) (c .loop-test .left))
 
 pub rule5-spec : {M : Type 1} → statement M
 rule5-spec =

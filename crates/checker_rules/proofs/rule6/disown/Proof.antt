@@ -13,7 +13,7 @@ same-length : tie.Need-same-length
 same-length c = search needs
 
 returns : tie.Need-returns
-returns c = disowned _ _ _ refl (c .before .before .own .ensures)
+returns c = search disowned
 
 pub disown-spec : {M : Type 1} → statement M
 disown-spec = tie.close (tie.spec own-requires same-length returns)

@@ -10,7 +10,9 @@ slice-aggregate-settled : tie.Need-slice-aggregate-settled
 slice-aggregate-settled c = search needs
 
 settled-requires : tie.Need-settled-requires
-settled-requires c κs = ((search needs, c .before .before .before .before .before .pre .0 .0, c .before .before .before .before .before .pre .0 .1), (c .before .before .before .before .before .pre .1 .0, (empty-zeros 4096, c .before .before .before .before .before .pre .1 .1)))
+settled-requires c κs =
+    let start : tie.Start = search needs in
+    ((search needs, start .pre .0 .0, start .pre .0 .1), (start .pre .1 .0, (empty-zeros 4096, start .pre .1 .1)))
 
 enum-known-put : tie.Need-enum-known-put
 enum-known-put c = search needs
@@ -22,19 +24,19 @@ same-length : tie.Need-same-length
 same-length c = search needs
 
 returns : tie.Need-returns
-returns c = rule6-broken _ _ _ _ _ _ _ (c .before .before .before .before .before .settled .ensures) (c .enum-told .given .1)
+returns c = search rule6-broken
 
 same-length-2 : tie.Need-same-length-2
 same-length-2 c = search needs
 
 returns-2 : tie.Need-returns-2
-returns-2 c = rule6-total _ _ _ _ _ _ _ (c .before .before .before .before .before .before .before .settled .ensures) _ (c .before .before .put .given .1) (c .if1 .taken)
+returns-2 c = search rule6-total
 
 same-length-3 : tie.Need-same-length-3
 same-length-3 c = search needs
 
 returns-3 : tie.Need-returns-3
-returns-3 c = rule6-holds _ _ _ _ _ _ _ (c .before .before .before .before .before .before .before .settled .ensures) _ (c .before .before .put .given .1) (c .if1 .left)
+returns-3 c = search rule6-holds
 
 pub rule6-spec : {M : Type 1} → statement M
 rule6-spec =

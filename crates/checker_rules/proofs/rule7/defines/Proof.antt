@@ -28,13 +28,13 @@ cast-if2 : tie.Need-cast-if2
 cast-if2 c = search needs
 
 returns-2 : tie.Need-returns-2
-returns-2 c = def-other _ _ _ _ _ _ (c .before .before .before .before .before .before .before .pre) refl (c .before .before .before .before .before .lower .ensures) _ (c .before .before .before .before .if1 .left) (c .before .before .mention-in .ensures) (c .if2 .taken)
+returns-2 c = search def-other
 
 returns-3 : tie.Need-returns-3
-returns-3 c = def-mod _ _ _ _ _ _ (c .before .before .before .before .before .before .before .before .pre) refl (c .before .before .before .before .before .before .lower .ensures) _ (c .before .before .before .before .before .if1 .left) (c .before .before .before .mention-in .ensures) (c .before .if2 .left) (c .if3 .taken)
+returns-3 c = search def-mod
 
 returns-4 : tie.Need-returns-4
-returns-4 c = def-is _ _ _ _ _ _ (c .before .before .before .before .before .before .before .before .pre) refl (c .before .before .before .before .before .before .lower .ensures) _ (c .before .before .before .before .before .if1 .left) (c .before .before .before .mention-in .ensures) _ (c .before .if2 .left) (c .if3 .left) refl
+returns-4 c = search def-is
 
 pub defines-spec : {M : Type 1} → statement M
 defines-spec =

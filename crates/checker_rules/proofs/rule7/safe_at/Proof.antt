@@ -19,7 +19,7 @@ interval-at-requires : tie.Need-interval-at-requires
 interval-at-requires c κs = search needs
 
 returns-2 : tie.Need-returns-2
-returns-2 c = at-plain _ _ _ _ _ _ (c .before .before .before .before .before .before .seated .ensures) _ (c .before .before .interval-at .ensures) (c .if2 .taken)
+returns-2 c = search at-plain
 
 cast-safe-in : tie.Need-cast-safe-in
 cast-safe-in c = search needs
@@ -33,11 +33,23 @@ cast-safe-in-2 c = search needs
 end-of-requires-2 : tie.Need-end-of-requires-2
 end-of-requires-2 c κs = search needs
 
+-- places further back
+abbrev to-after-seated : tie.After-interval-at → tie.After-seated
+to-after-seated c = search needs
+
+abbrev to-start : tie.After-seated → tie.Start
+to-start c = search needs
+
 safe-in-requires : tie.Need-safe-in-requires
-safe-in-requires c κs = (points-of _ _ _ _ _ _ _ (c .before .before .before .before .before .before .before .before .before .before .before .before .seated .ensures) (c .before .before .before .before .before .before .before .before .interval-at .ensures) (c .before .before .end-of .ensures) (c .before .before .before .before .before .before .before .before .before .before .before .before .before .before .before .before .before .pre .0 .1), row-of _ _ _ _ _ _ _ (c .before .before .before .before .before .before .before .before .before .before .before .before .seated .ensures) (c .before .before .before .before .before .before .before .before .interval-at .ensures) (c .end-of2 .ensures) (c .before .before .before .before .before .before .before .before .before .before .before .before .before .before .before .before .before .pre .0 .0))
+safe-in-requires c κs =
+    let after-end-of : tie.After-end-of = search needs in
+    let after-interval-at : tie.After-interval-at = search needs in
+    let after-seated = to-after-seated after-interval-at in
+    let start = to-start after-seated in
+    (points-of _ _ _ _ _ _ _ (after-seated .seated .ensures) (after-interval-at .interval-at .ensures) (after-end-of .end-of .ensures) (start .pre .0 .1), row-of _ _ _ _ _ _ _ (after-seated .seated .ensures) (after-interval-at .interval-at .ensures) (c .end-of2 .ensures) (start .pre .0 .0))
 
 returns-3 : tie.Need-returns-3
-returns-3 c = at-safe _ _ _ _ _ _ (c .before .before .before .before .before .before .before .before .before .before .before .before .before .seated .ensures) _ (c .before .before .before .before .before .before .before .before .before .interval-at .ensures) _ _ (c .before .before .before .end-of .ensures) (c .before .end-of2 .ensures) _ (c .before .before .before .before .before .before .before .before .before .before .before .if1 .left) (c .before .before .before .before .before .before .before .if2 .left) (c .safe-in .ensures)
+returns-3 c = search at-safe
 
 pub safe-at-spec : {M : Type 1} → statement M
 safe-at-spec =

@@ -13,7 +13,7 @@ lower-requires : tie.Need-lower-requires
 lower-requires c κs = search needs
 
 returns : tie.Need-returns
-returns c = safe-none _ _ _ _ _ _ _ _ _ _ (c .before .before .before .before .pre .0) refl (c .before .lower .ensures) (c .if1 .taken)
+returns c = search safe-none
 
 mul-s : tie.Need-mul-s
 mul-s c = search needs
@@ -25,22 +25,22 @@ twice-requires : tie.Need-twice-requires
 twice-requires c κs = search needs
 
 returns-2 : tie.Need-returns-2
-returns-2 c = safe-past _ _ _ _ _ _ _ _ _ _ (c .before .before .before .before .before .before .before .pre .0) refl (c .before .before .before .before .lower .ensures) _ _ (c .before .before .before .if1 .left) refl (c .before .twice .ensures) (c .if2 .taken)
+returns-2 c = search safe-past
 
 add-if3 : tie.Need-add-if3
 add-if3 c = search needs
 
 returns-3 : tie.Need-returns-3
-returns-3 c = safe-ends _ _ _ _ _ _ _ _ _ _ (c .before .before .before .before .before .before .before .before .pre .0) refl (c .before .before .before .before .before .lower .ensures) _ _ (c .before .before .before .before .if1 .left) refl (c .before .before .twice .ensures) (c .before .if2 .left) (c .if3 .taken)
+returns-3 c = search safe-ends
 
 defines-requires : tie.Need-defines-requires
 defines-requires c κs = search needs
 
 returns-4 : tie.Need-returns-4
-returns-4 c = safe-not _ _ _ _ _ _ _ _ _ _ (c .before .before .before .before .before .before .before .before .before .before .pre .0) refl (c .before .before .before .before .before .before .before .lower .ensures) _ _ (c .before .before .before .before .before .before .if1 .left) refl (c .before .before .before .before .twice .ensures) _ (c .before .before .before .if2 .left) (c .before .defines .ensures) (c .if4 .taken)
+returns-4 c = search safe-not
 
 returns-5 : tie.Need-returns-5
-returns-5 c = safe-is _ _ _ _ _ _ _ _ _ _ (c .before .before .before .before .before .before .before .before .before .before .pre .0) refl (c .before .before .before .before .before .before .before .lower .ensures) _ _ (c .before .before .before .before .before .before .if1 .left) refl (c .before .before .before .before .twice .ensures) _ (c .before .before .if3 .left) (c .before .defines .ensures) (c .if4 .left)
+returns-5 c = search safe-is
 
 pub safe-in-spec : {M : Type 1} → statement M
 safe-in-spec =

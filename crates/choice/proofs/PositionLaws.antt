@@ -2,6 +2,7 @@
 use Prim.Native.Nat.{ℕ, _≤_, _<_}
 use mathlib.Core.Path.{_≡_, sym}
 use mathlib.Core.Bool.{Bool, true, false}
+use lib.Dec.{ltb}
 use borrow.Author.Tests.{le-leb, lt-leb, eq-eqb, ne-eqb}
 use Rattle.rules.specs.declared.Pos.{Pos}
 use Rattle.rules.specs.declared.Pos.the-variants.{Blocked, At, Never}
@@ -9,6 +10,10 @@ use Rattle.rules.specs.declared.Choice.{Choice}
 use Rattle.rules.specs.declared.Choice.the-variants.{AllBlocked, Take}
 use Rattle.rules.specs.Positions.{below, lowerOf}
 use Rattle.choice.specs.Row.{better}
+
+-- of two points, the test of the points
+pub below-points : (a b : Pos) (x y : ℕ) → a ≡ At x → b ≡ At y → ltb x y ≡ below a b
+below-points a b x y e f = simp (e, f)
 
 module _ (a b : Pos) (x : ℕ) (e : a ≡ At x) where
   -- a point lies below never

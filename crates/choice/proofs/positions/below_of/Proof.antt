@@ -1,6 +1,7 @@
 -- `choice::positions::below_of` meets its contract: it goes by the same cases as the definition.
 -- Assumes nothing.
 use borrow.Author.Needs.{needs}
+use Rattle.choice.proofs.PositionLaws.{below-points}
 use Rattle.choice.proofs.positions.below_of.Statement.{statement}
 use Rattle.choice.proofs.positions.below_of.Tie as tie
 
@@ -44,7 +45,7 @@ returns-4 : tie.Need-returns-4
 returns-4 c = search needs
 
 returns-5 : tie.Need-returns-5
-returns-5 c = cc
+returns-5 c = search below-points
 
 returns-6 : tie.Need-returns-6
 returns-6 c = search needs

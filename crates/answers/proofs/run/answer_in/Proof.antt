@@ -1,0 +1,84 @@
+-- `answers::run::answer_in` is safe: what came lies in the lent bytes, which keep their length.
+-- Assumes nothing.
+use native.Mathlib.Omega.{arith}
+use Rattle.answers.proofs.TurnLaws.{whole-is}
+use borrow.Author.Needs.{needs}
+use Rattle.answers.proofs.run.answer_in.Statement.{statement}
+use Rattle.answers.proofs.run.answer_in.Tie as tie
+
+fill-requires : tie.Need-fill-requires
+fill-requires c κs = search needs
+
+enum-known-n : tie.Need-enum-known-n
+enum-known-n c = search needs
+
+sub-answer-text : tie.Need-sub-answer-text
+sub-answer-text c = search needs
+
+part-answer-text-start : tie.Need-part-answer-text-start
+part-answer-text-start c = search needs
+
+part-answer-text-end : tie.Need-part-answer-text-end
+part-answer-text-end c = omega (arith, whole-is _ (c .before .before .n .given .1) (c .before .before .before .before .before .before .fill .ensures), c .before .before .before .before .before .before .fill .kept)
+
+answer-text-requires : tie.Need-answer-text-requires
+answer-text-requires c κs = search needs
+
+enum-told : tie.Need-enum-told
+enum-told c = search needs
+
+slice-aggregate-write-all : tie.Need-slice-aggregate-write-all
+slice-aggregate-write-all c = search needs
+
+write-all-requires : tie.Need-write-all-requires
+write-all-requires c κs = search needs
+
+enum-told-2 : tie.Need-enum-told-2
+enum-told-2 c = search needs
+
+slice-aggregate-write-all-2 : tie.Need-slice-aggregate-write-all-2
+slice-aggregate-write-all-2 c = search needs
+
+write-all-requires-2 : tie.Need-write-all-requires-2
+write-all-requires-2 c κs = search needs
+
+same-length : tie.Need-same-length
+same-length c = search needs
+
+returns : tie.Need-returns
+returns c = search needs
+
+same-length-2 : tie.Need-same-length-2
+same-length-2 c = search needs
+
+returns-2 : tie.Need-returns-2
+returns-2 c = search needs
+
+same-length-3 : tie.Need-same-length-3
+same-length-3 c = search needs
+
+returns-3 : tie.Need-returns-3
+returns-3 c = search needs
+
+pub answer-in-spec : {M : Type 1} → statement M
+answer-in-spec =
+    tie.close
+    (tie.spec
+    fill-requires
+    enum-known-n
+    sub-answer-text
+    part-answer-text-start
+    part-answer-text-end
+    answer-text-requires
+    enum-told
+    slice-aggregate-write-all
+    write-all-requires
+    enum-told-2
+    slice-aggregate-write-all-2
+    write-all-requires-2
+    same-length
+    returns
+    same-length-2
+    returns-2
+    same-length-3
+    returns-3)

@@ -61,7 +61,7 @@ fn respond(
 }
 
 // One turn: reads the next case into the lent tables, and answers it.
-pub fn turn(
+fn turn(
     way: Way,
     text: &[u8],
     c: Cursor,
@@ -108,7 +108,7 @@ pub fn turn(
 }
 
 // Every case of a text.
-pub fn all(
+pub(crate) fn all(
     way: Way,
     text: &[u8],
     classes: &mut [u32],

@@ -75,10 +75,19 @@ fn put_noun(out: &mut [u8], at: usize, noun: Noun) -> usize {
     }
 }
 
+// Entries that are left over where there is nothing to have them.
+fn put_nowhere(out: &mut [u8], at: usize, number: u32) -> usize {
+    match number {
+        5 => sink::put(STDOUT_FILENO, out, at, b", with no interval at all"),
+        8 => sink::put(STDOUT_FILENO, out, at, b", with no register at all"),
+        _ => at,
+    }
+}
+
 // The place, where one is named: `, record 2`.
 fn put_place(out: &mut [u8], at: usize, number: u32, place: u32) -> usize {
     match place_of(place) {
-        Place::Nowhere => at,
+        Place::Nowhere => put_nowhere(out, at, number),
         Place::At(k) => {
             let next = put_noun(out, at, noun_of(number));
             sink::put_after(STDOUT_FILENO, out, next, b" ", k)

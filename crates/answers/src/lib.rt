@@ -2,7 +2,7 @@
 use cases::Cursor;
 
 mod answer;
-pub mod each;
+mod each;
 pub mod explain;
 mod input;
 mod lent;

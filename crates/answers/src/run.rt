@@ -33,6 +33,14 @@ fn answer_text(way: Way, text: &[u8]) {
     );
 }
 
+fn tell_long() {
+    io::write_all(STDERR_FILENO, b"the input is longer than 4194304 bytes\n");
+}
+
+fn tell_failed() {
+    io::write_all(STDERR_FILENO, b"the input could not be read\n");
+}
+
 // Reads standard input into the lent bytes. It has to leave the last of them free.
 fn answer_in(way: Way, text: &mut [u8]) {
     match input::fill(text) {
@@ -40,12 +48,8 @@ fn answer_in(way: Way, text: &mut [u8]) {
             let start = 0usize;
             answer_text(way, &text[start..n]);
         }
-        Input::TooLong => {
-            io::write_all(STDERR_FILENO, b"the input is longer than 4194304 bytes\n");
-        }
-        Input::Failed => {
-            io::write_all(STDERR_FILENO, b"the input could not be read\n");
-        }
+        Input::TooLong => tell_long(),
+        Input::Failed => tell_failed(),
     }
 }
 

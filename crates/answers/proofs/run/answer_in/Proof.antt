@@ -27,20 +27,14 @@ answer-text-requires c κs = search needs
 enum-told : tie.Need-enum-told
 enum-told c = search needs
 
-slice-aggregate-write-all : tie.Need-slice-aggregate-write-all
-slice-aggregate-write-all c = search needs
-
-write-all-requires : tie.Need-write-all-requires
-write-all-requires c κs = search needs
+tell-long-requires : tie.Need-tell-long-requires
+tell-long-requires c κs = search needs
 
 enum-told-2 : tie.Need-enum-told-2
 enum-told-2 c = search needs
 
-slice-aggregate-write-all-2 : tie.Need-slice-aggregate-write-all-2
-slice-aggregate-write-all-2 c = search needs
-
-write-all-requires-2 : tie.Need-write-all-requires-2
-write-all-requires-2 c κs = search needs
+tell-failed-requires : tie.Need-tell-failed-requires
+tell-failed-requires c κs = search needs
 
 same-length : tie.Need-same-length
 same-length c = search needs
@@ -71,11 +65,9 @@ answer-in-spec =
     part-answer-text-end
     answer-text-requires
     enum-told
-    slice-aggregate-write-all
-    write-all-requires
+    tell-long-requires
     enum-told-2
-    slice-aggregate-write-all-2
-    write-all-requires-2
+    tell-failed-requires
     same-length
     returns
     same-length-2

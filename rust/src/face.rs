@@ -1,16 +1,40 @@
-//! The C face of the archive. This is the only unsafe code of the crate.
+//! The C face of the archive over slices, as `include/temgurisk.h` declares it. This is the only
+//! unsafe code of the crate.
+//!
+//! It takes any numbers and words, also those that no typed value packs into, and answers in
+//! numbers. It is for comparisons; the functions at the root of the crate are for use.
 
-use crate::options::Options;
-use crate::tables::Tables;
+/// True where the archive was found when this was built.
+pub const AT_HAND: bool = cfg!(archive);
 
 /// What both functions answer.
 #[repr(C)]
 #[derive(Clone, Copy, Debug, PartialEq, Eq)]
-pub(crate) struct Answer {
-    pub(crate) number: u32,
-    pub(crate) place: u32,
-    pub(crate) count: u32,
-    pub(crate) total: u32,
+pub struct Answer {
+    pub number: u32,
+    pub place: u32,
+    pub count: u32,
+    pub total: u32,
+}
+
+/// The options; a strategy that is none of 1 to 7 is refused.
+#[derive(Clone, Copy, Debug)]
+pub struct Settings {
+    pub strategy: u32,
+    pub partial_split: bool,
+    pub partial_split_near_end: bool,
+}
+
+/// The tables, as [`Tables`](crate::Tables) says, lent.
+#[derive(Clone, Copy, Debug)]
+pub struct Lent<'a> {
+    pub instructions: u32,
+    pub classes: &'a [u32],
+    pub registers: &'a [u32],
+    pub fragments: &'a [u32],
+    pub intervals: &'a [u32],
+    pub mentions: &'a [u32],
+    pub safepoints: &'a [u32],
 }
 
 #[cfg(archive)]
@@ -59,15 +83,16 @@ extern "C" {
     ) -> Answer;
 }
 
+/// Assigns registers.
 #[cfg(archive)]
-pub(crate) fn assign(o: Options, t: &Tables, result: &mut [u32], work: &mut [u32]) -> Answer {
+pub fn assign(s: Settings, t: Lent, result: &mut [u32], work: &mut [u32]) -> Answer {
     // Every pointer goes with the length of its own slice. The archive keeps none of them, and is
     // proved to write inside the two lent areas only.
     unsafe {
         temgurisk_assign(
-            o.strategy.number(),
-            o.partial_split,
-            o.partial_split_near_end,
+            s.strategy,
+            s.partial_split,
+            s.partial_split_near_end,
             t.instructions,
             t.classes.as_ptr(),
             t.classes.len(),
@@ -89,8 +114,9 @@ pub(crate) fn assign(o: Options, t: &Tables, result: &mut [u32], work: &mut [u32
     }
 }
 
+/// Checks a claim: `count` records in `words`, and the slot total.
 #[cfg(archive)]
-pub(crate) fn check(t: &Tables, words: &[u32], count: u32, total: u32) -> Answer {
+pub fn check(t: Lent, words: &[u32], count: u32, total: u32) -> Answer {
     // Every pointer goes with the length of its own slice, and nothing is written.
     unsafe {
         temgurisk_check(
@@ -115,14 +141,17 @@ pub(crate) fn check(t: &Tables, words: &[u32], count: u32, total: u32) -> Answer
     }
 }
 
-/// Without the archive only the tests of packing are built, and they never call.
 #[cfg(not(archive))]
-pub(crate) fn assign(_: Options, _: &Tables, _: &mut [u32], _: &mut [u32]) -> Answer {
-    unimplemented!("the archive is missing")
+const MISSING: &str = "the archive is missing: run `rt staticlib temgurisk` and build again";
+
+/// Without the archive nothing can be asked.
+#[cfg(not(archive))]
+pub fn assign(_: Settings, _: Lent, _: &mut [u32], _: &mut [u32]) -> Answer {
+    panic!("{MISSING}")
 }
 
 /// As above.
 #[cfg(not(archive))]
-pub(crate) fn check(_: &Tables, _: &[u32], _: u32, _: u32) -> Answer {
-    unimplemented!("the archive is missing")
+pub fn check(_: Lent, _: &[u32], _: u32, _: u32) -> Answer {
+    panic!("{MISSING}")
 }

@@ -48,12 +48,13 @@
 //! # Ok::<(), temgurisk::TooLarge>(())
 //! ```
 
-#[cfg(all(not(archive), not(test)))]
+#[cfg(all(not(archive), not(test), not(feature = "archive-optional")))]
 compile_error!(
     "the archive libtemgurisk.a is missing: run `rt staticlib temgurisk` at the root of the repository, then build again"
 );
 
-mod face;
+#[doc(hidden)]
+pub mod face;
 mod options;
 mod placement;
 mod point;
@@ -101,7 +102,7 @@ pub fn assign_into<'a>(
     result: &'a mut [u32],
     work: &mut [u32],
 ) -> Result<Records<'a>, Refusal> {
-    let answer = face::assign(options, tables, result, work);
+    let answer = face::assign(options.settings(), tables.lent(), result, work);
     refused(answer)?;
     Ok(Records::new(
         &result[..placement::words(answer.count)],
@@ -112,7 +113,7 @@ pub fn assign_into<'a>(
 /// Checks any records against the placement rules: `words` has two words for each of the `count`
 /// records, and `total` is what the slots take together. It writes nothing.
 pub fn check(tables: &Tables, words: &[u32], count: u32, total: u32) -> Result<(), Refusal> {
-    refused(face::check(tables, words, count, total))
+    refused(face::check(tables.lent(), words, count, total))
 }
 
 fn refused(answer: Answer) -> Result<(), Refusal> {

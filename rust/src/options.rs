@@ -1,5 +1,7 @@
 //! How pieces are split.
 
+use crate::face::Settings;
+
 /// Where a piece is split that leaves its register: in a range from just after its last mention to
 /// the point where the register is lost. A place outside the range becomes its start.
 #[derive(Clone, Copy, Debug, PartialEq, Eq, Hash, Default)]
@@ -44,4 +46,15 @@ pub struct Options {
     pub partial_split: bool,
     /// Make that split as late as it can be, not as early.
     pub partial_split_near_end: bool,
+}
+
+impl Options {
+    /// The options in numbers.
+    pub(crate) fn settings(self) -> Settings {
+        Settings {
+            strategy: self.strategy.number(),
+            partial_split: self.partial_split,
+            partial_split_near_end: self.partial_split_near_end,
+        }
+    }
 }

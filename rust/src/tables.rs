@@ -1,5 +1,7 @@
 //! Tables as packed words.
 
+use crate::face::Lent;
+
 /// The six tables and the number of instructions, packed as the archive takes them.
 ///
 /// [`Program::pack`](crate::Program::pack) makes them; whoever has packed words already fills them
@@ -28,5 +30,18 @@ impl Tables {
     /// How many intervals there are: one for each value.
     pub fn interval_count(&self) -> usize {
         self.intervals.len() / INTERVAL_WORDS
+    }
+
+    /// The tables as a call takes them.
+    pub(crate) fn lent(&self) -> Lent<'_> {
+        Lent {
+            instructions: self.instructions,
+            classes: &self.classes,
+            registers: &self.registers,
+            fragments: &self.fragments,
+            intervals: &self.intervals,
+            mentions: &self.mentions,
+            safepoints: &self.safepoints,
+        }
     }
 }

@@ -136,16 +136,26 @@ pub fn classify_claim(case: &Case, claim: &Claim, ours: &Answer) -> Kind {
 }
 
 /// What document 01 would answer, by the module with both lines patched: a stand-in for the port
-/// until its archive is there. A debug assertion is taken for 13.
-pub fn module_alone(case: &Case) -> Answer {
+/// until its archive is there. A debug assertion is taken for 13. None where the room ends at a
+/// record at which, with more room, an assertion stops the module: that is 10 or 13, and only the
+/// rules can tell.
+pub fn module_alone(case: &Case) -> Option<Answer> {
     if let Some(answer) = sound::refusal(case) {
-        return answer;
+        return Some(answer);
     }
     let limit = capacity(case.room().result);
     match oracle_wide::assign(case, limit).ending {
-        Ending::Done(answer) | Ending::Error(answer) | Ending::Full(answer) => answer,
-        Ending::Panicked { record, .. } => Answer::refused(FIXED_CLASH, record),
+        Ending::Done(answer) | Ending::Error(answer) => Some(answer),
+        Ending::Full(answer) if stops_at(case, answer.place) => None,
+        Ending::Full(answer) => Some(answer),
+        Ending::Panicked { record, .. } => Some(Answer::refused(FIXED_CLASH, record)),
     }
+}
+
+/// True where an assertion stops the module at this record, with room enough.
+fn stops_at(case: &Case, record: u32) -> bool {
+    let ending = oracle_wide::assign(case, ENDLESS).ending;
+    matches!(ending, Ending::Panicked { record: at, .. } if at == record)
 }
 
 /// Accepted tables: 1 and 10 to 13.

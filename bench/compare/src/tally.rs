@@ -2,6 +2,7 @@
 
 use crate::kind::Kind;
 use std::collections::BTreeMap;
+use std::process::ExitCode;
 use tables::answer::Answer;
 use tables::case::Case;
 use tables::text;
@@ -43,13 +44,24 @@ impl Tally {
         }
     }
 
-    /// True where every difference is one that docs/DIFFERENCES.md lists.
-    pub fn is_clean(&self) -> bool {
-        !self.rows.keys().any(|(kind, _)| kind.is_unlisted())
+    /// Prints the counts, the smallest cases if asked for, and a last line that says what was done.
+    /// It fails, with the cases, where a difference is not one that docs/DIFFERENCES.md lists.
+    pub fn report(&self, smallest: bool, what: &str) -> ExitCode {
+        self.print();
+        if smallest {
+            self.print_cases(|_| true);
+        }
+        if self.rows.keys().any(|(kind, _)| kind.is_unlisted()) {
+            self.print_cases(Kind::is_unlisted);
+            return ExitCode::FAILURE;
+        }
+        let count: u64 = self.rows.values().map(|row| row.count).sum();
+        println!("{what}: {count} compared, no difference that is not listed");
+        ExitCode::SUCCESS
     }
 
     /// Counts by answer, and by kind and answer.
-    pub fn print(&self) {
+    fn print(&self) {
         let mut numbers: BTreeMap<u32, u64> = BTreeMap::new();
         for ((_, number), row) in &self.rows {
             *numbers.entry(*number).or_insert(0) += row.count;
@@ -66,16 +78,7 @@ impl Tally {
         }
     }
 
-    /// The smallest case of every kind and answer, as text.
-    pub fn print_smallest(&self) {
-        self.print_cases(|_| true);
-    }
-
-    /// The unlisted differences as text, to be looked at.
-    pub fn print_unlisted(&self) {
-        self.print_cases(Kind::is_unlisted);
-    }
-
+    /// Cases of the wanted kinds as text, the smallest of each kind and answer.
     fn print_cases(&self, wanted: impl Fn(&Kind) -> bool) {
         for ((kind, _), row) in self.rows.iter().filter(|((kind, _), _)| wanted(kind)) {
             println!("# {}", kind.title());

@@ -1,15 +1,41 @@
-//! The proved archive: its two functions, and what a caller sees of them.
-
-mod face;
-
-pub use face::{assign, check, Four, AT_HAND};
+//! The proved archive: its two functions on cases, and what a caller sees of them.
 
 use tables::answer::{Answer, DONE, FIXED_CLASH, NO_RECORD};
 use tables::case::{Case, Claim};
 use tables::words::{capacity, RECORD_WORDS};
+use temgurisk::face::{self, Answer as Four, Lent, Settings};
+
+pub use temgurisk::face::AT_HAND;
 
 /// What lent words hold before a call, so that an unwritten one is seen.
 const BEFORE: u32 = 0xdead_beef;
+
+fn lent(case: &Case) -> Lent<'_> {
+    Lent {
+        instructions: case.instructions,
+        classes: &case.classes,
+        registers: &case.registers,
+        fragments: &case.fragments,
+        intervals: &case.intervals,
+        mentions: &case.mentions,
+        safepoints: &case.safepoints,
+    }
+}
+
+/// Assigns registers. The lent areas are the caller's.
+pub fn assign(case: &Case, result: &mut [u32], work: &mut [u32]) -> Four {
+    let settings = Settings {
+        strategy: case.options.strategy,
+        partial_split: case.options.partial_split,
+        partial_split_near_end: case.options.near_end,
+    };
+    face::assign(settings, lent(case), result, work)
+}
+
+/// Checks a claim: records and slot total.
+pub fn check(case: &Case, words: &[u32], count: u32, total: u32) -> Four {
+    face::check(lent(case), words, count, total)
+}
 
 /// Lends a fresh result area and work area, calls the port, and looks at every word of the result
 /// area afterwards. An error says which word is wrong.

@@ -12,9 +12,6 @@ use tables::text;
 const HOW: &str = "use: recorded CASES ANSWERS [--smallest]";
 
 fn main() -> ExitCode {
-    if !compare::MODULE_AT_HAND {
-        println!("recorded: the published module is not at hand, and nothing is compared with it");
-    }
     let words: Vec<String> = std::env::args().skip(1).collect();
     let show = words.iter().any(|word| word == "--smallest");
     let files: Vec<&String> = words
@@ -26,7 +23,7 @@ fn main() -> ExitCode {
         return ExitCode::FAILURE;
     };
     match run(cases, answers) {
-        Ok(tally) => report(&tally, show),
+        Ok(tally) => tally.report(show, &format!("{answers}, {}", with_what())),
         Err(why) => {
             eprintln!("recorded: {why}");
             ExitCode::FAILURE
@@ -34,16 +31,14 @@ fn main() -> ExitCode {
     }
 }
 
-fn report(tally: &Tally, show: bool) -> ExitCode {
-    tally.print();
-    if show {
-        tally.print_smallest();
+/// What recorded answers are compared with.
+fn with_what() -> &'static str {
+    match (compare::MODULE_AT_HAND, port::AT_HAND) {
+        (true, true) => "with the module and the archive",
+        (true, false) => "with the module, and no archive",
+        (false, true) => "with the archive (the module is not at hand: skipped)",
+        (false, false) => "with the second reading (no module and no archive: skipped)",
     }
-    if tally.is_clean() {
-        return ExitCode::SUCCESS;
-    }
-    tally.print_unlisted();
-    ExitCode::FAILURE
 }
 
 fn run(cases: &str, answers: &str) -> Result<Tally, String> {
@@ -51,7 +46,12 @@ fn run(cases: &str, answers: &str) -> Result<Tally, String> {
     let recorded = parse_answers(&read(answers)?)?;
     compare::silence_panics();
     let mut tally = Tally::default();
-    for case in text::read(&read(cases)?) {
+    let found = text::read(&read(cases)?);
+    if found.len() != recorded.len() {
+        let (cases, answers) = (found.len(), recorded.len());
+        return Err(format!("{cases} cases, but {answers} answers"));
+    }
+    for case in found {
         let case = case.map_err(|bad| format!("{} line {}: {}", bad.name, bad.line, bad.what))?;
         let Some(answer) = recorded.get(&case.name) else {
             return Err(format!("no answer for {}", case.name));

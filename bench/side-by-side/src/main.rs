@@ -31,16 +31,26 @@ fn main() -> ExitCode {
         println!("side-by-side: skipped, the published module is not at hand");
         return ExitCode::SUCCESS;
     }
-    if !port::AT_HAND {
-        println!("side-by-side: no archive (run `rt staticlib temgurisk`), so the module's builds are compared with each other");
-    }
     compare::silence_panics();
     match run(&wanted) {
-        Ok(tally) => report(&tally, wanted.smallest),
+        Ok(tally) => tally.report(wanted.smallest, &what(&wanted)),
         Err(why) => {
             eprintln!("side-by-side: {why}");
             ExitCode::FAILURE
         }
+    }
+}
+
+/// What is compared.
+fn what(wanted: &Wanted) -> String {
+    let cases = match &wanted.file {
+        Some(path) => path.clone(),
+        None => format!("{} made-up tables", wanted.count),
+    };
+    if port::AT_HAND {
+        format!("{cases}, with their claims, module and archive")
+    } else {
+        format!("{cases}, the module's builds alone (no archive: run `rt staticlib temgurisk`)")
     }
 }
 
@@ -90,15 +100,16 @@ fn made_up(seed: u64) -> Case {
 
 /// One case through both, and where it is done, its result through the checker.
 fn side_by_side(case: &Case, tally: &mut Tally) {
-    let ours = if port::AT_HAND {
-        port::answer(case)
-    } else {
-        Ok(compare::module_alone(case))
-    };
-    match ours {
+    if !port::AT_HAND {
+        if let Some(answer) = compare::module_alone(case) {
+            tally.add(compare::classify(case, &answer), case, &answer);
+        }
+        return;
+    }
+    match port::answer(case) {
         Ok(answer) => {
             tally.add(compare::classify(case, &answer), case, &answer);
-            if port::AT_HAND && answer.number == DONE {
+            if answer.number == DONE {
                 check_claims(case, &answer, tally);
             }
         }
@@ -130,16 +141,4 @@ fn check_claims(case: &Case, answer: &Answer, tally: &mut Tally) {
         };
         tally.add(kind, &with_claim, &verdict);
     }
-}
-
-fn report(tally: &Tally, smallest: bool) -> ExitCode {
-    tally.print();
-    if smallest {
-        tally.print_smallest();
-    }
-    if tally.is_clean() {
-        return ExitCode::SUCCESS;
-    }
-    tally.print_unlisted();
-    ExitCode::FAILURE
 }

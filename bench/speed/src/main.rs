@@ -3,20 +3,26 @@
 //! The module's input is cloned outside the clock; the archive's entry checks are inside.
 
 mod clock;
+mod report;
 mod workloads;
 
-use clock::{measure, Times};
+use clock::{measure, Measured};
+use report::Row;
+use std::path::PathBuf;
 use std::process::ExitCode;
-use workloads::Workload;
 
 const HOW: &str = "use: speed [--rounds N] [--file CASES]";
 const USUAL_ROUNDS: u32 = 200;
-/// The bar holds for workloads of at least so many intervals.
-const BAR_FROM: usize = 50;
+/// The folder of recorded workloads: the one that this variable names, else one beside the
+/// repository.
+const VARIABLE: &str = "WORKLOADS";
+const BESIDE_THE_REPOSITORY: &str =
+    concat!(env!("CARGO_MANIFEST_DIR"), "/../../../shared/workloads");
+const REAL_CODE: &str = "open.txt";
 
 struct Wanted {
     rounds: u32,
-    file: Option<String>,
+    file: Option<PathBuf>,
 }
 
 fn main() -> ExitCode {
@@ -29,7 +35,7 @@ fn main() -> ExitCode {
         return ExitCode::SUCCESS;
     }
     compare::silence_panics();
-    caution();
+    caution(&wanted);
     match run(&wanted) {
         Ok(()) => ExitCode::SUCCESS,
         Err(why) => {
@@ -42,94 +48,52 @@ fn main() -> ExitCode {
 fn parse(mut words: impl Iterator<Item = String>) -> Option<Wanted> {
     let mut wanted = Wanted {
         rounds: USUAL_ROUNDS,
-        file: None,
+        file: recorded_workloads(),
     };
     while let Some(word) = words.next() {
         match word.as_str() {
-            "--rounds" => wanted.rounds = words.next()?.parse().ok()?,
-            "--file" => wanted.file = Some(words.next()?),
+            "--rounds" => wanted.rounds = words.next()?.parse().ok().filter(|n| *n > 0)?,
+            "--file" => wanted.file = Some(words.next()?.into()),
             _ => return None,
         }
     }
     Some(wanted)
 }
 
+/// The cases made from real code, where they are at hand.
+fn recorded_workloads() -> Option<PathBuf> {
+    let folder = std::env::var_os(VARIABLE).unwrap_or_else(|| BESIDE_THE_REPOSITORY.into());
+    Some(PathBuf::from(folder).join(REAL_CODE)).filter(|file| file.is_file())
+}
+
 /// What makes the numbers below worth less.
-fn caution() {
+fn caution(wanted: &Wanted) {
     if !oracle_speed::DEBIAN_CRATES {
         println!("# the module runs on stand-ins for smallvec, log and rustc-hash: install Debian's librust-smallvec-dev, librust-log-dev and librust-rustc-hash-dev for times that count");
     }
     if !port::AT_HAND {
         println!("# no archive (run `rt staticlib temgurisk`): only the module is timed");
     }
+    if wanted.file.is_none() {
+        println!("# the cases from real code are not at hand (name their folder in {VARIABLE}): only made-up programs are timed");
+    }
 }
 
 fn run(wanted: &Wanted) -> Result<(), String> {
-    println!(
-        "{:52} {:>9} {:>8} {:>11} {:>11} {:>7} {:>11} {:>7}",
-        "workload", "intervals", "records", "module us", "ours us", "ratio", "check us", "ratio"
-    );
-    let mut grown = Vec::new();
+    report::print_head();
+    let mut rows = Vec::new();
     for workload in workloads::all(wanted.file.as_deref())? {
-        let Some(times) = measure(&workload.case, wanted.rounds) else {
-            println!(
-                "{:52} the module does not finish, not timed",
-                workload.name()
-            );
-            continue;
-        };
-        print_row(&workload, &times);
-        if let Some(series) = workload.series {
-            grown.push((series, workload.case.interval_count(), times));
+        match measure(&workload.case, wanted.rounds) {
+            Measured::Times(times) => {
+                let row = Row::new(&workload, times);
+                row.print();
+                rows.push(row);
+            }
+            Measured::Not(why) => println!("{:52} not timed: {why}", workload.name()),
         }
     }
-    print_growth(&grown);
+    report::print_classes(&rows);
+    report::print_growth(&rows);
+    report::print_bar(&rows);
     Ok(())
-}
-
-fn micros(nanos: u64) -> f64 {
-    nanos as f64 / 1_000.0
-}
-
-fn print_row(workload: &Workload, times: &Times) {
-    let count = workload.case.interval_count();
-    let start = format!(
-        "{:52} {:>9} {:>8} {:>11.2}",
-        workload.name(),
-        count,
-        times.records,
-        micros(times.module)
-    );
-    let Some((ours, check)) = times.port else {
-        println!("{start}");
-        return;
-    };
-    let ratio = ours as f64 / times.module as f64;
-    let missed = if ratio > 1.0 && count >= BAR_FROM {
-        "  above the bar"
-    } else {
-        ""
-    };
-    let of_ours = check as f64 / ours as f64;
-    println!(
-        "{start} {:>11.2} {ratio:>7.3} {:>11.2} {of_ours:>7.3}{missed}",
-        micros(ours),
-        micros(check)
-    );
-}
-
-/// The time for a record as the tables grow.
-fn print_growth(grown: &[(&str, usize, Times)]) {
-    println!("nanoseconds per record as programs grow:");
-    for (series, intervals, times) in grown {
-        let per_record = |nanos: u64| nanos as f64 / times.records.max(1) as f64;
-        let module = per_record(times.module);
-        match times.port {
-            Some((ours, _)) => println!(
-                "{series}, {intervals:>5} intervals: module {module:8.1}, ours {:8.1}",
-                per_record(ours)
-            ),
-            None => println!("{series}, {intervals:>5} intervals: module {module:8.1}"),
-        }
-    }
 }

@@ -1,5 +1,6 @@
 //! What is timed: programs of growing size, long intervals, and the cases of a file.
 
+use std::path::Path;
 use tables::answer::Ending;
 use tables::case::Case;
 use tables::generate::{self, Program};
@@ -10,6 +11,7 @@ pub struct Workload {
     pub case: Case,
     /// The row of growing sizes that it belongs to.
     pub series: Option<&'static str>,
+    pub from_file: bool,
 }
 
 const SIZES: [u32; 9] = [10, 50, 100, 200, 400, 800, 1_600, 3_200, 4_000];
@@ -30,7 +32,7 @@ impl Workload {
     }
 }
 
-pub fn all(file: Option<&str>) -> Result<Vec<Workload>, String> {
+pub fn all(file: Option<&Path>) -> Result<Vec<Workload>, String> {
     let mut all = Vec::new();
     all.extend(SIZES.iter().filter_map(|size| few_registers(*size)));
     all.extend(SIZES.iter().filter_map(|size| many_registers(*size)));
@@ -67,6 +69,7 @@ fn few_registers(values: u32) -> Option<Workload> {
     Some(Workload {
         case,
         series: Some(FEW),
+        from_file: false,
     })
 }
 
@@ -85,18 +88,27 @@ fn many_registers(values: u32) -> Option<Workload> {
     Some(Workload {
         case,
         series: Some(MANY),
+        from_file: false,
     })
 }
 
 fn long(values: u32) -> Option<Workload> {
     let mut case = first_that_finishes(|seed| generate::long(seed, values))?;
     case.name = format!("long intervals, {values}");
-    Some(Workload { case, series: None })
+    Some(Workload {
+        case,
+        series: None,
+        from_file: false,
+    })
 }
 
-fn from_file(path: &str) -> Result<Vec<Workload>, String> {
-    let cases = std::fs::read_to_string(path).map_err(|e| format!("{path}: {e}"))?;
-    let keep = |case| Workload { case, series: None };
+fn from_file(path: &Path) -> Result<Vec<Workload>, String> {
+    let cases = std::fs::read_to_string(path).map_err(|e| format!("{}: {e}", path.display()))?;
+    let keep = |case| Workload {
+        case,
+        series: None,
+        from_file: true,
+    };
     let read = text::read(&cases).into_iter();
     let plain = read.map(|case| case.map(keep));
     plain

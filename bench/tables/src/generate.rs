@@ -5,7 +5,7 @@ use crate::rng::Rng;
 use crate::words::*;
 
 /// What a made-up case is like.
-#[derive(Clone, Copy, Debug, PartialEq, Eq)]
+#[derive(Clone, Copy, Debug, PartialEq, Eq, PartialOrd, Ord)]
 pub enum Shape {
     /// Few instructions, everything meets everything.
     Dense,
@@ -114,10 +114,14 @@ const REFERENCES: Plan = Plan {
     ..DENSE
 };
 
-/// A sound case of a shape that the seed picks.
+/// The shape that a seed picks.
+pub fn shape(seed: u64) -> Shape {
+    SHAPES[(Rng::new(seed).draw() % SHAPES.len() as u64) as usize]
+}
+
+/// A sound case of the shape that the seed picks.
 pub fn any(seed: u64) -> Case {
-    let shape = SHAPES[(Rng::new(seed).draw() % SHAPES.len() as u64) as usize];
-    case(shape, seed)
+    case(shape(seed), seed)
 }
 
 /// A sound case with one thing changed, so that mostly something is bad.

@@ -40,6 +40,10 @@ pub enum Said {
     NotANumber,
 }
 
+fn say(out: &mut [u8], at: usize, words: &[u8]) -> usize {
+    sink::put(STDOUT_FILENO, out, at, words)
+}
+
 fn place_of(place: u32) -> Place {
     if place == NOWHERE {
         return Place::Nowhere;
@@ -63,23 +67,23 @@ fn noun_of(number: u32) -> Noun {
 
 fn put_noun(out: &mut [u8], at: usize, noun: Noun) -> usize {
     match noun {
-        Noun::Nothing => sink::put(STDOUT_FILENO, out, at, b" with the place"),
-        Noun::Class => sink::put(STDOUT_FILENO, out, at, b", class"),
-        Noun::Interval => sink::put(STDOUT_FILENO, out, at, b", interval"),
-        Noun::Mention => sink::put(STDOUT_FILENO, out, at, b", mention"),
-        Noun::Safepoint => sink::put(STDOUT_FILENO, out, at, b", safepoint"),
-        Noun::Register => sink::put(STDOUT_FILENO, out, at, b", register"),
-        Noun::Record => sink::put(STDOUT_FILENO, out, at, b", record"),
-        Noun::Rule => sink::put(STDOUT_FILENO, out, at, b", rule"),
-        Noun::Unknown => sink::put(STDOUT_FILENO, out, at, b" with the place"),
+        Noun::Nothing => say(out, at, b" with the place"),
+        Noun::Class => say(out, at, b", class"),
+        Noun::Interval => say(out, at, b", interval"),
+        Noun::Mention => say(out, at, b", mention"),
+        Noun::Safepoint => say(out, at, b", safepoint"),
+        Noun::Register => say(out, at, b", register"),
+        Noun::Record => say(out, at, b", record"),
+        Noun::Rule => say(out, at, b", rule"),
+        Noun::Unknown => say(out, at, b" with the place"),
     }
 }
 
 // Entries that are left over where there is nothing to have them.
 fn put_nowhere(out: &mut [u8], at: usize, number: u32) -> usize {
     match number {
-        5 => sink::put(STDOUT_FILENO, out, at, b", with no interval at all"),
-        8 => sink::put(STDOUT_FILENO, out, at, b", with no register at all"),
+        5 => say(out, at, b", with no interval at all"),
+        8 => say(out, at, b", with no register at all"),
         _ => at,
     }
 }
@@ -95,60 +99,35 @@ fn put_place(out: &mut [u8], at: usize, number: u32, place: u32) -> usize {
     }
 }
 
-// Answers 1 to 9, given at entry or at the end.
-fn put_entry(out: &mut [u8], at: usize, number: u32) -> usize {
+// Answers 4 to 8: a table that is not sound.
+fn put_table(out: &mut [u8], at: usize, number: u32) -> usize {
     match number {
-        1 => sink::put(
-            STDOUT_FILENO,
+        4 => say(
             out,
             at,
-            b"done, every value has a place at each of its points",
+            b"the class is not sound in its registers, its scratch register or its spare bits",
         ),
-        2 => sink::put(STDOUT_FILENO, out, at, b"the strategy is none of 1 to 7"),
-        3 => sink::put(
-            STDOUT_FILENO,
+        5 => say(
             out,
             at,
-            b"a count is over its limit, or there is no class, or the interval words are not four to each",
+            b"the interval is not sound in its class, its points, its spare bits, or its mentions and safepoints do not follow on",
         ),
-        4 => sink::put(
-            STDOUT_FILENO,
-            out,
-            at,
-            b"the class is not sound in its first register, its count, its scratch register or its spare bits",
-        ),
-        5 => sink::put(
-            STDOUT_FILENO,
-            out,
-            at,
-            b"the interval is not sound in its class, its points, its spare bits, or which mentions and safepoints it has",
-        ),
-        6 => sink::put(
-            STDOUT_FILENO,
+        6 => say(
             out,
             at,
             b"the mention has no flag or a spare bit, lies outside its interval, or does not come after the one before",
         ),
-        7 => sink::put(
-            STDOUT_FILENO,
+        7 => say(
             out,
             at,
             b"the safepoint is not on a reference, lies outside its interval, does not come after the one before, or meets a mere use",
         ),
-        8 => sink::put(
-            STDOUT_FILENO,
+        8 => say(
             out,
             at,
-            b"the fixed fragments of the register are not in order, or not inside the program, or not where they are due",
+            b"the fixed fragments of the register are not in order, not inside the program, or do not follow on",
         ),
-        9 => sink::put(
-            STDOUT_FILENO,
-            out,
-            at,
-            b"the room is too small, either fewer result records than intervals or too few work words",
-        ),
-        _ => sink::put(
-            STDOUT_FILENO,
+        _ => say(
             out,
             at,
             b"there is no such answer, since they are numbered 1 to 14",
@@ -156,35 +135,53 @@ fn put_entry(out: &mut [u8], at: usize, number: u32) -> usize {
     }
 }
 
+// Answers 1 to 9, given at entry or at the end.
+fn put_entry(out: &mut [u8], at: usize, number: u32) -> usize {
+    match number {
+        1 => say(
+            out,
+            at,
+            b"done, every value has a place at each of its points",
+        ),
+        2 => say(out, at, b"the strategy is none of 1 to 7"),
+        3 => say(
+            out,
+            at,
+            b"a count is over its limit, or there is no class, or the interval words are not four to each",
+        ),
+        9 => say(
+            out,
+            at,
+            b"the room is too small, either fewer result records than intervals or too few work words",
+        ),
+        _ => put_table(out, at, number),
+    }
+}
+
 // Answers 10 to 14, given during a run or by the checker.
 fn put_cause(out: &mut [u8], at: usize, number: u32) -> usize {
     match number {
-        10 => sink::put(
-            STDOUT_FILENO,
+        10 => say(
             out,
             at,
             b"the record has to be split, and all result records are used",
         ),
-        11 => sink::put(
-            STDOUT_FILENO,
+        11 => say(
             out,
             at,
             b"the record has a mention, and its class has no register besides scratch",
         ),
-        12 => sink::put(
-            STDOUT_FILENO,
+        12 => say(
             out,
             at,
             b"out of registers, since the record is used at its start and every register is needed there",
         ),
-        13 => sink::put(
-            STDOUT_FILENO,
+        13 => say(
             out,
             at,
             b"the record is mentioned at the very point where a fixed fragment of its register begins",
         ),
-        14 => sink::put(
-            STDOUT_FILENO,
+        14 => say(
             out,
             at,
             b"the claimed placement breaks this rule and none below it",
@@ -196,54 +193,38 @@ fn put_cause(out: &mut [u8], at: usize, number: u32) -> usize {
 // The placement rules, by number.
 fn put_rule(out: &mut [u8], at: usize, rule: u32) -> usize {
     match rule {
-        1 => sink::put(
-            STDOUT_FILENO,
+        1 => say(
             out,
             at,
             b": each point of an interval lies in exactly one of its records",
         ),
-        2 => sink::put(
-            STDOUT_FILENO,
+        2 => say(
             out,
             at,
             b": all points of a mention lie in one register record",
         ),
-        3 => sink::put(
-            STDOUT_FILENO,
+        3 => say(
             out,
             at,
             b": a register is of the interval's class, and never scratch",
         ),
-        4 => sink::put(
-            STDOUT_FILENO,
-            out,
-            at,
-            b": records that share a register do not overlap",
-        ),
-        5 => sink::put(
-            STDOUT_FILENO,
+        4 => say(out, at, b": records that share a register do not overlap"),
+        5 => say(
             out,
             at,
             b": a record does not meet a fixed fragment of its register",
         ),
-        6 => sink::put(
-            STDOUT_FILENO,
+        6 => say(
             out,
             at,
             b": each value has one slot, slots do not meet, and the total is the end of the last",
         ),
-        7 => sink::put(
-            STDOUT_FILENO,
+        7 => say(
             out,
             at,
             b": a reference in a register at its first safepoint is written there",
         ),
-        _ => sink::put(
-            STDOUT_FILENO,
-            out,
-            at,
-            b", but the rules are numbered 1 to 7",
-        ),
+        _ => say(out, at, b", but the rules are numbered 1 to 7"),
     }
 }
 
@@ -251,7 +232,7 @@ fn put_rule(out: &mut [u8], at: usize, rule: u32) -> usize {
 pub(crate) fn put_sentence(out: &mut [u8], at: usize, number: u32, place: u32) -> usize {
     let named = sink::put_after(STDOUT_FILENO, out, at, b"answer ", number);
     let placed = put_place(out, named, number, place);
-    let next = sink::put(STDOUT_FILENO, out, placed, b": ");
+    let next = say(out, placed, b": ");
     let told = put_cause(out, next, number);
     if number == 14 {
         return put_rule(out, told, place);

@@ -18,7 +18,10 @@ enum-known-claimed : tie.Need-enum-known-claimed
 enum-known-claimed c = search needs
 
 checked-requires : tie.Need-checked-requires
-checked-requires c κs = claim-is _ (c .before .claimed .given .1) (c .before .before .before .before .before .before .before .before .before .before .before .before .before .pre .claim)
+checked-requires c κs =
+    let after-claimed : tie.After-claimed = search needs in
+    let start : tie.Start = search needs in
+    claim-is _ (after-claimed .claimed .given .1) (start .pre .claim)
 
 sub-line : tie.Need-sub-line
 sub-line c = search needs

@@ -66,7 +66,11 @@ returns : tie.Need-returns Inv-loop μ-loop
 returns c = search needs
 
 loop-less : tie.Need-loop-less Inv-loop μ-loop
-loop-less c = omega (arith, on-is _ _ (c .before .next .given .1) (c .before .before .before .before .before .before .before .before .before .before .before .before .before .before .before .before .before .before .before .before .before .before .before .turn .ensures) .later, on-is _ _ (c .before .next .given .1) (c .before .before .before .before .before .before .before .before .before .before .before .before .before .before .before .before .before .before .before .before .before .before .before .turn .ensures) .within)
+loop-less c =
+    let after-next : tie.After-next Inv-loop μ-loop = search needs in
+    let after-turn : tie.After-turn Inv-loop μ-loop = search needs in
+    let onto = on-is _ _ (after-next .next .given .1) (after-turn .turn .ensures) in
+    omega (arith, onto .later, onto .within)
 
 loop-again : tie.Need-loop-again Inv-loop μ-loop
 loop-again c = search needs

@@ -12,13 +12,21 @@ enum-known-read : tie.Need-enum-known-read
 enum-known-read c = search needs
 
 tell-requires : tie.Need-tell-requires
-tell-requires c κs = (bad-is _ _ _ (c .before .before .before .before .read .given .1) (c .before .before .before .before .before .before .before .before .before .before .before .before .before .before .before .before .before .pre) .ordered, bad-is _ _ _ (c .before .before .before .before .read .given .1) (c .before .before .before .before .before .before .before .before .before .before .before .before .before .before .before .before .before .pre) .high)
+tell-requires c κs =
+    let after-read : tie.After-read = search needs in
+    let start : tie.Start = search needs in
+    let onward = bad-is _ _ _ (after-read .read .given .1) (start .pre) in
+    (onward .ordered, onward .high)
 
 enum-known-read-2 : tie.Need-enum-known-read-2
 enum-known-read-2 c = search needs
 
 answer-requires : tie.Need-answer-requires
-answer-requires c κs = record { ordered = case-is _ _ _ (c .before .before .before .before .before .read2 .given .1) (c .before .before .before .before .before .before .before .before .before .before .before .before .before .before .before .before .before .before .pre) .0 .ordered; high = case-is _ _ _ (c .before .before .before .before .before .read2 .given .1) (c .before .before .before .before .before .before .before .before .before .before .before .before .before .before .before .before .before .before .pre) .0 .high; claim = case-is _ _ _ (c .before .before .before .before .before .read2 .given .1) (c .before .before .before .before .before .before .before .before .before .before .before .before .before .before .before .before .before .before .pre) .1 }
+answer-requires c κs =
+    let after-read : tie.After-read2 = search needs in
+    let start : tie.Start = search needs in
+    let good = case-is _ _ _ (after-read .read2 .given .1) (start .pre) in
+    record { ordered = good .0 .ordered; high = good .0 .high; claim = good .1 }
 
 returns : tie.Need-returns
 returns c = search needs
@@ -27,7 +35,11 @@ same-length : tie.Need-same-length
 same-length c = search needs
 
 returns-2 : tie.Need-returns-2
-returns-2 c = record { later = bad-is _ _ _ (c .before .before .before .before .before .before .before .read .given .1) (c .before .before .before .before .before .before .before .before .before .before .before .before .before .before .before .before .before .before .before .before .pre) .later; within = bad-is _ _ _ (c .before .before .before .before .before .before .before .read .given .1) (c .before .before .before .before .before .before .before .before .before .before .before .before .before .before .before .before .before .before .before .before .pre) .within }
+returns-2 c =
+    let after-read : tie.After-read = search needs in
+    let start : tie.Start = search needs in
+    let onward = bad-is _ _ _ (after-read .read .given .1) (start .pre) in
+    record { later = onward .later; within = onward .within }
 
 same-length-2 : tie.Need-same-length-2
 same-length-2 c = search needs
@@ -39,7 +51,11 @@ same-length-4 : tie.Need-same-length-4
 same-length-4 c = search needs
 
 returns-3 : tie.Need-returns-3
-returns-3 c = record { later = case-is _ _ _ (c .before .before .before .before .before .before .before .before .before .before .before .before .read2 .given .1) (c .before .before .before .before .before .before .before .before .before .before .before .before .before .before .before .before .before .before .before .before .before .before .before .before .before .pre) .0 .later; within = case-is _ _ _ (c .before .before .before .before .before .before .before .before .before .before .before .before .read2 .given .1) (c .before .before .before .before .before .before .before .before .before .before .before .before .before .before .before .before .before .before .before .before .before .before .before .before .before .pre) .0 .within }
+returns-3 c =
+    let after-read : tie.After-read2 = search needs in
+    let start : tie.Start = search needs in
+    let good = case-is _ _ _ (after-read .read2 .given .1) (start .pre) in
+    record { later = good .0 .later; within = good .0 .within }
 
 pub respond-spec : {M : Type 1} → statement M
 respond-spec =

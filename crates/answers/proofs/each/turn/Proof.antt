@@ -9,7 +9,9 @@ read-requires : tie.Need-read-requires
 read-requires c κs = search needs
 
 respond-requires : tie.Need-respond-requires
-respond-requires c κs = answerable _ _ _ _ _ _ _ _ _ _ _ (c .before .before .before .before .before .before .before .before .before .before .before .before .before .before .before .before .before .before .before .before .before .before .before .before .read .ensures) (search needs)
+respond-requires c κs =
+    let after-read : tie.After-read = search needs in
+    answerable _ _ _ _ _ _ _ _ _ _ _ (after-read .read .ensures) (search needs)
 
 same-length : tie.Need-same-length
 same-length c = search needs

@@ -19,7 +19,10 @@ part-answer-text-start : tie.Need-part-answer-text-start
 part-answer-text-start c = search needs
 
 part-answer-text-end : tie.Need-part-answer-text-end
-part-answer-text-end c = omega (arith, whole-is _ (c .before .before .n .given .1) (c .before .before .before .before .before .before .fill .ensures), c .before .before .before .before .before .before .fill .kept)
+part-answer-text-end c =
+    let after-n : tie.After-n = search needs in
+    let after-fill : tie.After-fill = search needs in
+    omega (arith, whole-is _ (after-n .n .given .1) (after-fill .fill .ensures), after-fill .fill .kept)
 
 answer-text-requires : tie.Need-answer-text-requires
 answer-text-requires c κs = search needs

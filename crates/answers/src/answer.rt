@@ -13,7 +13,7 @@ use libc::STDOUT_FILENO;
 use temgurisk::Reply;
 ghost use Prim.Native.Nat.{_≤_};
 ghost use lib.ListN.{length};
-ghost use Rattle.answers.specs.Turns.{Named};
+ghost use Rattle.answers.specs.Lending.{Named};
 
 // The claimed count and total stand before the claimed words.
 const CLAIM_NUMBERS: usize = 2;
@@ -211,7 +211,7 @@ fn check_case(
 }
 
 // Answers one case.
-pub(crate) fn answer(
+pub fn answer(
     way: Way,
     text: &[u8],
     k: Case,

@@ -3,7 +3,7 @@ use cases::Room;
 ghost use mathlib.Core.Path.{_≡_};
 ghost use Prim.Native.Nat.{_≤_};
 ghost use lib.ListN.{take};
-ghost use Rattle.answers.specs.Turns.{Lends};
+ghost use Rattle.answers.specs.Lending.{Lends};
 
 // So many words of the result area, and of the work area.
 pub(crate) struct Space {

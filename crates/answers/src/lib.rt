@@ -1,15 +1,11 @@
-// Cases answered: a text of cases is read one by one, the assigner or the checker is asked, and a line says the answer. It is safe on any bytes, and ends, since every turn moves on in the text.
-use cases::Cursor;
+// A case answered: the assigner or the checker is asked, and a line says the answer, for a program or for a person. A case that cannot be read gets a line on standard error.
 
-mod answer;
-mod each;
+pub mod answer;
 pub mod explain;
-mod input;
 mod lent;
-pub mod run;
 mod show;
 mod sink;
-mod trouble;
+pub mod trouble;
 
 // What is done with each case.
 pub enum Way {
@@ -19,10 +15,4 @@ pub enum Way {
     Check,
     // Assign, and write the answer for a person.
     Show,
-}
-
-// After one turn: where the next one starts, or the text is over.
-pub enum Turn {
-    On(Cursor),
-    Over,
 }

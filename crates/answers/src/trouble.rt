@@ -47,7 +47,8 @@ fn put_name(out: &mut [u8], name: &[u8]) -> usize {
     sink::put(STDERR_FILENO, out, 0, name)
 }
 
-pub(crate) fn tell(text: &[u8], name: Span, line: u32, what: What, out: &mut [u8])
+// Writes that line.
+pub fn tell(text: &[u8], name: Span, line: u32, what: What, out: &mut [u8])
     requires { ⌜ (name .from ≤ name .to) × (name .to ≤ length (now text)) ⌝ }
 {
     let from = name.from;

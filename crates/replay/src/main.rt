@@ -1,5 +1,5 @@
 // Recorded answers, replayed: the cases of `stdin` are assigned, and what is written must be `stdout`. HOW.md says how the two were made.
 
 fn main() {
-    answers::run::answer_input(answers::Way::Assign);
+    turns::run::answer_input(answers::Way::Assign);
 }

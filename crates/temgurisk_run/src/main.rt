@@ -71,7 +71,7 @@ fn main() {
     let mut word = [0u8; 16];
     let n = os::arg(1, &mut word);
     match command_of(&word[..n], os::arg_count()) {
-        Command::Cases(way) => answers::run::answer_input(way),
+        Command::Cases(way) => turns::run::answer_input(way),
         Command::Sentence => explain(),
         Command::Unknown => print_usage(),
     }

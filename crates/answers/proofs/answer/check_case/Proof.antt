@@ -1,6 +1,6 @@
 -- `answers::answer::check_case` is safe: a claim that is there has its count and its total.
 -- Assumes nothing.
-use Rattle.answers.proofs.TurnLaws.{claim-is}
+use Rattle.answers.proofs.ClaimLaws.{claim-is}
 use borrow.Author.Needs.{needs}
 use Rattle.answers.proofs.answer.check_case.Statement.{statement}
 use Rattle.answers.proofs.answer.check_case.Tie as tie

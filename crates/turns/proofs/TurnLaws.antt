@@ -1,20 +1,15 @@
 -- What was read, once its variant is known.
-use mathlib.Core.Path.{_≡_, sym, subst}
-use Prim.Native.Nat.{ℕ, _≤_, _<_}
+use mathlib.Core.Path.{_≡_, subst}
+use Prim.Native.Nat.{ℕ, _≤_}
 use Rattle.cases.specs.declared.Case.{Case}
-use Rattle.cases.specs.declared.Claim.{Claim}
 use Rattle.cases.specs.declared.Cursor.{Cursor}
 use Rattle.cases.specs.declared.Read.{Read}
 use Rattle.cases.specs.declared.Trouble.{Trouble}
 use Rattle.cases.specs.Bounds.{ClaimFits}
-use Rattle.cases.specs.Reading.{Onward, Good, Reads}
-use Rattle.answers.specs.declared.Turn.{Turn}
-use Rattle.answers.specs.declared.input.Input.{Input}
-use Rattle.answers.specs.Turns.{Onto, Turned, Holds, Leads, Answerable}
-
--- a claim that is there has its count and its total
-pub claim-is : (m : ℕ) {q : Claim} {k : ℕ} → q ≡ Claim.Words k → ClaimFits m q → (2 ≤ k) × (k ≤ m)
-claim-is m e h = subst (ClaimFits m) e h
+use Rattle.cases.specs.Reading.{Onward, Reads}
+use Rattle.turns.specs.declared.Turn.{Turn}
+use Rattle.turns.specs.declared.input.Input.{Input}
+use Rattle.turns.specs.Turns.{Onto, Turned, Holds, Leads, Answerable}
 
 -- what the reader answers can be answered, also where the claim's table is another of the same length
 answered : (at n a b c d e f g : ℕ) (r : Read) → Reads at n a b c d e f g r → Leads at n g r

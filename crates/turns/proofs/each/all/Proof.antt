@@ -1,13 +1,13 @@
--- `answers::each::all` is safe and ends: each turn moves on in the text, and the lent words keep their lengths.
+-- `turns::each::all` is safe and ends: each turn moves on in the text, and the lent words keep their lengths.
 -- Assumes nothing.
 use Prim.Native.Nat.{_-_}
 use mathlib.Core.Path.{_≡_}
 use lib.ListN.{length}
 use native.Mathlib.Omega.{arith}
-use Rattle.answers.proofs.TurnLaws.{on-is}
+use Rattle.turns.proofs.TurnLaws.{on-is}
 use borrow.Author.Needs.{needs}
-use Rattle.answers.proofs.each.all.Statement.{statement}
-use Rattle.answers.proofs.each.all.Tie as tie
+use Rattle.turns.proofs.each.all.Statement.{statement}
+use Rattle.turns.proofs.each.all.Tie as tie
 
 abbrev Inv-loop : tie.InvT-loop
 Inv-loop way text classes₀ registers₀ fragments₀ intervals₀ mentions₀ safepoints₀ claim₀ result₀ work₀ out₀ c₀ classes registers fragments intervals mentions safepoints claim result work out c =

@@ -1,9 +1,9 @@
--- `answers::each::turn` meets its contract: the reader moves on, and the tables keep their lengths.
+-- `turns::each::turn` meets its contract: the reader moves on, and the tables keep their lengths.
 -- Assumes nothing.
-use Rattle.answers.proofs.TurnLaws.{answerable}
+use Rattle.turns.proofs.TurnLaws.{answerable}
 use borrow.Author.Needs.{needs}
-use Rattle.answers.proofs.each.turn.Statement.{statement}
-use Rattle.answers.proofs.each.turn.Tie as tie
+use Rattle.turns.proofs.each.turn.Statement.{statement}
+use Rattle.turns.proofs.each.turn.Tie as tie
 
 read-requires : tie.Need-read-requires
 read-requires c κs = search needs

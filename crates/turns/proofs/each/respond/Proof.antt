@@ -1,9 +1,9 @@
--- `answers::each::respond` meets its contract: what was read lies inside the text, and leads on.
+-- `turns::each::respond` meets its contract: what was read lies inside the text, and leads on.
 -- Assumes nothing.
-use Rattle.answers.proofs.TurnLaws.{bad-is, case-is}
+use Rattle.turns.proofs.TurnLaws.{bad-is, case-is}
 use borrow.Author.Needs.{needs}
-use Rattle.answers.proofs.each.respond.Statement.{statement}
-use Rattle.answers.proofs.each.respond.Tie as tie
+use Rattle.turns.proofs.each.respond.Statement.{statement}
+use Rattle.turns.proofs.each.respond.Tie as tie
 
 enum-told : tie.Need-enum-told
 enum-told c = search needs

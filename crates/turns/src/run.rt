@@ -1,8 +1,8 @@
 // The whole of it: standard input is read, and every case in it answered.
-use crate::Way;
 use crate::each;
 use crate::input;
 use crate::input::Input;
+use answers::Way;
 use libc::STDERR_FILENO;
 
 // The tables are one entry longer than their limits, so that a table over its limit can still be read and is answered 3.

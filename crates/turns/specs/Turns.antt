@@ -1,13 +1,11 @@
--- Facts for contracts: a turn moves on, and what is lent is there.
+-- Facts for contracts: a turn moves on, and what came lies in the lent bytes.
 use Prim.Native.Nat.{ℕ, _≤_, _<_}
 use Rattle.cases.specs.declared.Cursor.{Cursor}
-use Rattle.cases.specs.declared.Case.{Case}
 use Rattle.cases.specs.declared.Read.{Read}
 use Rattle.cases.specs.Bounds.{ClaimFits}
 use Rattle.cases.specs.Reading.{Onward}
-use Rattle.answers.specs.declared.Turn.{Turn}
-use Rattle.answers.specs.declared.lent.Space.{Space}
-use Rattle.answers.specs.declared.input.Input.{Input}
+use Rattle.turns.specs.declared.Turn.{Turn}
+use Rattle.turns.specs.declared.input.Input.{Input}
 
 -- a place further on, in a text of n bytes
 pub record Onto (at n : ℕ) (c : Cursor) : Type 0 where
@@ -19,22 +17,11 @@ abbrev pub Turned : ℕ → ℕ → Turn → Type 0
 Turned at n (Turn.On c) = Onto at n c
 Turned at n Turn.Over = Unit
 
--- no more words than there are
-pub record Lends (r w : ℕ) (s : Space) : Type 0 where
-  pub result : s .result ≤ r
-  pub work : s .work ≤ w
-
 -- what came lies in n bytes
 abbrev pub Holds : ℕ → Input → Type 0
 Holds n (Input.Whole k) = k ≤ n
 Holds n Input.TooLong = Unit
 Holds n Input.Failed = Unit
-
--- a case whose name is a part of a text of n bytes, and whose claim lies in m words
-pub record Named (n m : ℕ) (k : Case) : Type 0 where
-  pub ordered : k .name .from ≤ k .name .to
-  pub high : k .name .to ≤ n
-  pub claim : ClaimFits m (k .claim)
 
 -- what was read from a byte on: the reader has moved on, and the claim of a case lies in m words
 abbrev pub Leads : ℕ → ℕ → ℕ → Read → Type 0

@@ -2,7 +2,7 @@
 use libc::STDIN_FILENO;
 ghost use Prim.Native.Nat.{_≤_};
 ghost use lib.ListN.{length};
-ghost use Rattle.answers.specs.Turns.{Holds};
+ghost use Rattle.turns.specs.Turns.{Holds};
 
 // How many bytes came; or there is more than the lent bytes but one can hold; or a read failed.
 pub(crate) enum Input {

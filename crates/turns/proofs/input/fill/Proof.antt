@@ -1,11 +1,11 @@
--- `answers::input::fill` meets its contract: each read adds bytes inside the lent ones.
+-- `turns::input::fill` meets its contract: each read adds bytes inside the lent ones.
 -- Assumes nothing.
 use Prim.Native.Nat.{_-_, _≤_}
 use mathlib.Core.Path.{_≡_}
 use lib.ListN.{length}
 use borrow.Author.Needs.{needs}
-use Rattle.answers.proofs.input.fill.Statement.{statement}
-use Rattle.answers.proofs.input.fill.Tie as tie
+use Rattle.turns.proofs.input.fill.Statement.{statement}
+use Rattle.turns.proofs.input.fill.Tie as tie
 
 abbrev Inv-loop : tie.InvT-loop
 Inv-loop text₀ n₀ text n = (n ≤ length text) × (length text ≡ length text₀)

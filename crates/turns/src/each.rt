@@ -1,13 +1,13 @@
 // One case after the other.
 use crate::Turn;
-use crate::Way;
-use crate::answer;
-use crate::trouble;
+use answers::Way;
+use answers::answer;
+use answers::trouble;
 use cases::Cursor;
 use cases::Read;
 ghost use Prim.Native.Nat.{_≤_};
 ghost use lib.ListN.{length};
-ghost use Rattle.answers.specs.Turns.{Answerable, Turned};
+ghost use Rattle.turns.specs.Turns.{Answerable, Turned};
 
 // Answers what was read, a case in the lent tables, or tells what is wrong with it.
 fn respond(

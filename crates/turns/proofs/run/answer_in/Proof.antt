@@ -1,10 +1,10 @@
--- `answers::run::answer_in` is safe: what came lies in the lent bytes, which keep their length.
+-- `turns::run::answer_in` is safe: what came lies in the lent bytes, which keep their length.
 -- Assumes nothing.
 use native.Mathlib.Omega.{arith}
-use Rattle.answers.proofs.TurnLaws.{whole-is}
+use Rattle.turns.proofs.TurnLaws.{whole-is}
 use borrow.Author.Needs.{needs}
-use Rattle.answers.proofs.run.answer_in.Statement.{statement}
-use Rattle.answers.proofs.run.answer_in.Tie as tie
+use Rattle.turns.proofs.run.answer_in.Statement.{statement}
+use Rattle.turns.proofs.run.answer_in.Tie as tie
 
 fill-requires : tie.Need-fill-requires
 fill-requires c κs = search needs

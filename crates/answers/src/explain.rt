@@ -147,7 +147,7 @@ fn put_entry(out: &mut [u8], at: usize, number: u32) -> usize {
         3 => say(
             out,
             at,
-            b"a count is over its limit, or there is no class, or the interval words are not four to each",
+            b"a count is over its limit, there is no class, the interval words are not four to each, or a claim counts more records than it has",
         ),
         9 => say(
             out,

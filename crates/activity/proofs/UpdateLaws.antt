@@ -1,10 +1,11 @@
 -- The loops of the tracker. Assumes nothing.
 use mathlib.Core.Path.{_≡_, refl, sym, _∙_}
+use mathlib.Core.Bool.{Bool, true}
 use mathlib.Core.List.{List}
 use Prim.Native.Nat.{ℕ, _+_, _-_, _≤_, _<_}
 use native.Mathlib.Omega.{arith}
 use native.Mathlib.Numerals.{add-one}
-use lib.ListN.{length, getD}
+use lib.ListN.{length, getD, set}
 use lib.Seq.{getD-set-other}
 use borrow.Author.Tests.{lt-ltb, le-ltb}
 use Rattle.words.specs.declared.Range.{Range}
@@ -12,10 +13,11 @@ use Rattle.words.specs.declared.Fragment.{Fragment}
 use Rattle.words.specs.Packed.{rangeIn, fragmentIn}
 use Rattle.words.proofs.Fold.{one-less, none-left}
 use Rattle.activity.specs.declared.Tracker.{Tracker}
+use Rattle.activity.specs.Bits.{NoneSet}
 use Rattle.activity.specs.Fixed.{stopOf, lastAt}
-use Rattle.activity.specs.Cursors.{cursor, withActive, withCursor, moved, Moved, advancedFrom, Ready, freshFrom, freshOf, noneActive}
+use Rattle.activity.specs.Cursors.{cursor, withActive, withCursor, leftOf, moved, Moved, advancedFrom, Ready, freshFrom, freshOf, noneActive}
+use Rattle.activity.proofs.CursorLaws.{nothing-moves}
 
--- i is one of what is left before n
 -- one cursor on its way
 pub record Moving (fs : List ℕ) (S from stop f : ℕ) : Type 0 where
   pub is : moved fs S f (stop - f) ≡ moved fs S from (stop - from)
@@ -44,6 +46,16 @@ module _ {fs : List ℕ} {S from stop f : ℕ} (m : Moving fs S from stop f) whe
   pub moving-ends : stop ≤ f → Moved fs from stop S f
   unfolding moved
   moving-ends h = record { is = sym (rw (none-left f stop h) refl) ∙ m .is; high = m .upto }
+
+-- nothing is ahead in the class
+pub updating-none : {rs fs : List ℕ} {t : Tracker} {first count : ℕ} (S active : ℕ) (b : Bool) → Ready rs fs t first count → NoneSet (t .ahead) first count b → b ≡ true
+    → withActive active t ≡ advancedFrom rs fs S first count (withActive active t)
+updating-none {rs} {fs} {t} {first} {count} S active b y n e =
+    sym (nothing-moves rs fs S count first (withActive active t) (n .none e) (λ k a l. y .spent k (omega (arith, y .inside)) (n .none e k a l)))
+
+-- the class lies in the word
+pub class-bits : {rs fs : List ℕ} {t : Tracker} {first count : ℕ} → Ready rs fs t first count → first + count ≤ 64
+class-bits y = omega (arith, y .inside, y .fixed .few)
 
 -- the cursors of a class on their way
 pub record Updating (rs fs : List ℕ) (S first count : ℕ) (a u : Tracker) (r : ℕ) : Type 0 where
@@ -77,13 +89,14 @@ module _ {rs fs : List ℕ} {t : Tracker} {first count : ℕ} (y : Ready rs fs t
     pub turn-fits : (from S f : ℕ) → Moved fs from (range .index + range .count) S f → f < 65536
     turn-fits from S f m = omega (arith, m .high, turn-stop, y .fixed .small)
 
-    pub updating-more : {S : ℕ} {a u : Tracker} (f : ℕ) → Updating rs fs S first count a u r → Moved fs (cursor u r) (range .index + range .count) S f
-        → Updating rs fs S first count a (withCursor u r f) (r + 1)
+    pub updating-more : {S : ℕ} {a u : Tracker} (f m′ : ℕ) → Updating rs fs S first count a u r → Moved fs (cursor u r) (range .index + range .count) S f
+        → m′ ≡ leftOf (u .ahead) r f (range .index + range .count)
+        → Updating rs fs S first count a (record { active = u .active; ahead = m′; cursors = set (u .cursors) r f }) (r + 1)
     unfolding advancedFrom
-    updating-more {S} {a} {u} f g m =
+    updating-more {S} {a} {u} f m′ g m w =
         let i : f ≡ moved fs S (cursor u r) (stopOf rs r - cursor u r) = rw e at (m .is) in
         record {
-          is = rw i (sym (rw (one-less r (first + count) h, add-one r)) ∙ g .is);
+          is = rw (w, e, i) (sym (rw (one-less r (first + count) h, add-one r)) ∙ g .is);
           upto = omega arith;
           high = λ k b l. rw (getD-set-other (u .cursors) r k f 0 (λ q. omega arith)) (g .high k (omega arith) l);
         }

@@ -1,19 +1,21 @@
-// The activity tracker: how many records are active, and for each register a cursor into its fragments, before which all end before the last start. Cursors only rise, so that of a register's fragments only the one at the cursor is ever looked at.
+// The activity tracker: how many records are active, and for each register a cursor into its fragments, before which all end before the last start, and a bit, clear only where no fragment is ahead. Cursors only rise, so that of a register's fragments only the one at the cursor is ever looked at, and none where the class's bits are clear.
 use words::read;
 
+pub mod bits;
 pub mod ended;
 pub mod fixed;
 
 ghost use mathlib.Core.Path.{_≡_};
 ghost use Prim.Native.Nat.{ℕ, _+_, _<_, _≤_};
 ghost use lib.ListN.{length};
-ghost use Rattle.activity.specs.Cursors.{Moved, Ready, advanced, freshOf};
+ghost use Rattle.activity.specs.Cursors.{Moved, Ready, advanced, freshOf, leftOf};
 
 // Limits: 64 registers.
 pub const REGISTERS: usize = 64;
 
 pub struct Tracker {
     pub active: u16,
+    pub ahead: u64,
     pub cursors: [u16; REGISTERS],
 }
 
@@ -24,6 +26,7 @@ pub fn fresh(registers: &[u32]) -> Tracker
 {
     let mut t = Tracker {
         active: 0,
+        ahead: u64::MAX,
         cursors: [0; REGISTERS],
     };
     let mut r = 0;
@@ -51,6 +54,17 @@ fn moved_past(fragments: &[u32], from: u16, stop: usize, start: u16) -> usize
     f
 }
 
+// A register whose cursor stands past its fragments has none ahead.
+fn left(ahead: u64, r: usize, f: usize, stop: usize) -> u64
+    requires { ⌜ r < 64 ⌝ }
+    ensures { λ m. ⌜ m ≡ leftOf ahead r f stop ⌝ }
+{
+    if f == stop {
+        return bits::without_bit(ahead, r);
+    }
+    ahead
+}
+
 // For the popped piece's class: so many records are active, and the cursors of its registers move.
 fn updated(
     t: Tracker,
@@ -66,6 +80,9 @@ fn updated(
 {
     let mut u = t;
     u.active = active;
+    if bits::none_set(u.ahead, first, count) {
+        return u;
+    }
     let end = first + count;
     let mut r = first;
     while r < end {
@@ -73,6 +90,7 @@ fn updated(
         let stop = range.index as usize + range.count as usize;
         let f = moved_past(fragments, u.cursors[r], stop, start);
         u.cursors[r] = f as u16;
+        u.ahead = left(u.ahead, r, f, stop);
         r += 1;
     }
     u

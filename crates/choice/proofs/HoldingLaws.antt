@@ -33,14 +33,16 @@ use Rattle.store.specs.declared.Counts.{Counts}
 use Rattle.store.specs.StateOf.{stateOf, Ready, Got, GotActive}
 use Rattle.store.proofs.StateLaws.{active-are, records-are}
 use Rattle.activity.specs.declared.Tracker.{Tracker}
+use Rattle.activity.specs.Bits.{hasBit, WithBit, NoneSet}
 use Rattle.activity.specs.Fixed.{fixedPos}
 use Rattle.activity.specs.Cursors.{Facing}
+use Rattle.activity.proofs.BitLaws.{no-bit}
+use Rattle.activity.proofs.CursorLaws.{facing-faced}
+use Rattle.activity.proofs.FixedLaws.{says-none}
 use Rattle.choice.specs.declared.Seat.{Seat}
 use Rattle.choice.specs.declared.Seat.the-variants.{Outside, Inside}
-use Rattle.choice.specs.Bits.{hasBit, WithBit}
 use Rattle.choice.specs.Row.{posIn, FixedRow}
-use Rattle.choice.specs.Holding.{seatOf, useOf, nextPos, HolderRow, HeldMask, OpenRow, Runs, FreeRow, NextRow}
-use Rattle.choice.proofs.BitLaws.{no-bit}
+use Rattle.choice.specs.Holding.{seatOf, useOf, nextPos, HolderRow, HeldMask, OpenRow, UnfixedRow, Runs, FreeRow, NextRow}
 
 -- ---- seats
 pub seat-nowhere : (place : Place) (first stop : ℕ) → place ≡ Nowhere → Outside ≡ seatOf first stop place
@@ -249,6 +251,33 @@ module _ {rs fs : List ℕ} {first count S end m : ℕ} {b : List Pos} {r : ℕ}
   pub opening-ends : first + count ≤ r → OpenRow rs fs first count S end m b
   opening-ends h = record { is = λ k a l. g .is k a (omega arith) }
 
+-- the same, where none has a fragment ahead: the registers before r are filled
+pub record Unfixing (first count m : ℕ) (b : List Pos) (r : ℕ) : Type 0 where
+  pub is : (k : ℕ) → first ≤ k → k < r → posIn b k ≡ choose (hasBit m k) Blocked Never
+  pub long : length b ≡ 64
+  pub upto : r ≤ first + count
+
+pub unfixing-starts : (first count m : ℕ) (b : List Pos) → length b ≡ 64 → Unfixing first count m b first
+unfixing-starts first count m b n = record { is = λ k a l. absurd (omega arith); long = n; upto = omega arith }
+
+module _ {first count m : ℕ} {b : List Pos} {r : ℕ} (g : Unfixing first count m b r) where
+  pub unfixing-more : (v : Pos) (taken : Bool) → taken ≡ hasBit m r → v ≡ choose taken Blocked Never → r < first + count → first + count ≤ 64 → Unfixing first count m (set b r v) (r + 1)
+  unfixing-more v taken w u h i = record { is = λ k a l. at k a l (ℕ-discrete r k); long = simp length-set (g .long); upto = omega arith }
+    where
+      at : (k : ℕ) → first ≤ k → k < r + 1 → Dec (r ≡ k) → posIn (set b r v) k ≡ choose (hasBit m k) Blocked Never
+      at k a l (yes q) = rw (sym q) (getD-set-same b r v Blocked (omega (arith, g .long)) ∙ u ∙ rw w refl)
+      at k a l (no d) = getD-set-other b r k v Blocked (λ q. d (sym q)) ∙ g .is k a (omega arith)
+
+  pub unfixing-ends : first + count ≤ r → UnfixedRow first count m b
+  unfixing-ends h = record { is = λ k a l. g .is k a (omega arith) }
+
+-- a register with no fragment ahead is free for ever, as far as its fragments go
+unfixed : {rs fs : List ℕ} {S first count : ℕ} {t : Tracker} (end : ℕ) → Facing rs fs S first count t → NoneSet (t .ahead) first count true → (r : ℕ) → first ≤ r → r < first + count
+    → Never ≡ fixedPos S end (part (registerAt rs r) fs)
+unfixed {rs} end y n r a l =
+    let past = y .cursors .spent r (omega (arith, y .inside)) (n .none refl r a l) in
+    says-none end (facing-faced y r a l (registerAt rs r) refl) (omega (arith, past))
+
 -- free-until, from the fragments and the holders
 pub free-row : (rs fs : List ℕ) (s : State) (q : Piece) (first count m : ℕ) (o : List Pos) {t : Tracker} → Facing rs fs (q .start) first count t → HeldMask s m
     → OpenRow rs fs first count (q .start) (q .end) m o → FreeRow rs fs s q first count o
@@ -259,6 +288,14 @@ free-row rs fs s q first count m o y h x =
     go : (a b : Bool) (p : Pos) → choose a Blocked (choose b Blocked p) ≡ choose (a || b) Blocked p
     go true b p = refl
     go false b p = refl
+
+pub free-unfixed : (rs fs : List ℕ) (s : State) (q : Piece) (first count m : ℕ) (o : List Pos) {t : Tracker} (b : Bool) → Facing rs fs (q .start) first count t → HeldMask s m
+    → NoneSet (t .ahead) first count b → b ≡ true → UnfixedRow first count m o → FreeRow rs fs s q first count o
+free-unfixed rs fs s q first count m o b y h n e x =
+    free-row rs fs s q first count m o y h (record { is = λ r a l. x .is r a l ∙ ap (λ (p : Pos). choose (hasBit m r) Blocked p) (unfixed (q .end) y (rw e at n) r a l) })
+
+pub class-bits : {rs fs : List ℕ} {S first count : ℕ} {t : Tracker} → Facing rs fs S first count t → first + count ≤ 64
+class-bits y = omega (arith, y .inside, y .fixed .few)
 
 -- ---- next use: a held register has its piece's next use, unless its fragments come first
 pub next-starts : (cap : ℕ) (ws : List ℕ) (c : Counts) (first stop : ℕ) (row : List Pos) (ms : List ℕ) (S : ℕ) → Ready cap ws c → length row ≡ 64

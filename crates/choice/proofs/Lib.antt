@@ -1,5 +1,4 @@
 -- The laws of positions, of the furthest register, in a row and in a slice, and of rows.
-pub mod BitLaws
 pub mod PositionLaws
 pub mod FurthestLaws
 pub mod EntryLaws

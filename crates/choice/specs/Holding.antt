@@ -19,10 +19,10 @@ use Rattle.rules.specs.State.{Given, State, piece}
 use Rattle.rules.specs.Uses.{mentionPoints, nextUse}
 use Rattle.rules.specs.Steps.{isHeld, holder, posOfUse, freeUntil, nextUsePos}
 use Rattle.uses.specs.Runs.{Rising}
+use Rattle.activity.specs.Bits.{hasBit}
 use Rattle.activity.specs.Fixed.{fixedPos}
 use Rattle.choice.specs.declared.Seat.{Seat}
 use Rattle.choice.specs.declared.Seat.the-variants.{Outside, Inside}
-use Rattle.choice.specs.Bits.{hasBit}
 use Rattle.choice.specs.Row.{posIn}
 
 -- the register of a place, if it is one of first..stop
@@ -51,6 +51,10 @@ pub record HeldMask (s : State) (m : ℕ) : Type 0 where
 -- 2. "blocked if an active piece .. holds it, else" what its fragments say
 pub record OpenRow (rs fs : List ℕ) (first count S end m : ℕ) (row : List Pos) : Type 0 where
   pub is : (r : ℕ) → first ≤ r → r < first + count → posIn row r ≡ choose (hasBit m r) Blocked (fixedPos S end (part (registerAt rs r) fs))
+
+-- .. where none of the class has a fragment ahead
+pub record UnfixedRow (first count m : ℕ) (row : List Pos) : Type 0 where
+  pub is : (r : ℕ) → first ≤ r → r < first + count → posIn row r ≡ choose (hasBit m r) Blocked Never
 
 -- the mentions of every piece are in order
 pub record Runs (s : State) (ms : List ℕ) : Type 0 where

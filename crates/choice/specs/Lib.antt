@@ -1,4 +1,3 @@
 -- Positions by register.
-pub mod Bits
 pub mod Row
 pub mod Holding

@@ -1,9 +1,9 @@
 // What the active pieces put into a class's row. The holder of a register is the first active record in it, so the walks go from the last to the first, and the first has the last word.
 use crate::Seat;
-use crate::bits;
 use crate::positions;
 use activity::REGISTERS;
 use activity::Tracker;
+use activity::bits;
 use activity::fixed;
 use rules::Piece;
 use rules::Place;
@@ -24,7 +24,7 @@ ghost use Rattle.rules.specs.Steps.{posOfUse};
 ghost use Rattle.store.specs.StateOf.{Ready, stateOf};
 ghost use Rattle.uses.specs.Runs.{Rising};
 ghost use Rattle.activity.specs.Cursors.{Facing};
-ghost use Rattle.choice.specs.Holding.{FreeRow, HeldMask, HolderRow, OpenRow, Runs, nextPos, seatOf};
+ghost use Rattle.choice.specs.Holding.{FreeRow, HeldMask, HolderRow, OpenRow, Runs, UnfixedRow, nextPos, seatOf};
 
 fn seat_of(place: Place, first: usize, stop: usize) -> Seat
     ensures { λ r. ⌜ r ≡ seatOf first stop place ⌝ }
@@ -102,6 +102,22 @@ fn open_row(
     b
 }
 
+// .. where none of them has a fragment ahead.
+fn unfixed_row(row: [Pos; REGISTERS], held: u64, first: usize, count: usize) -> [Pos; REGISTERS]
+    requires { ⌜ first + count ≤ 64 ⌝ }
+    ensures { λ o. ⌜ UnfixedRow first count held o ⌝ }
+{
+    let mut b = row;
+    let stop = first + count;
+    let mut r = first;
+    while r < stop {
+        let taken = bits::has_bit(held, r);
+        b[r] = unless_held(taken, Pos::Never);
+        r += 1;
+    }
+    b
+}
+
 // Step 2: free-until, for each register of the popped piece's class. Every register of the class is written anew in its row.
 pub fn free_until(
     row: [Pos; REGISTERS],
@@ -120,6 +136,9 @@ pub fn free_until(
     ensures { λ o. ⌜ FreeRow (now (registers .entry)) (now (fragments .entry)) (stateOf cap (now (work .entry)) counts) q first count o ⌝ }
 {
     let held = held_mask(work, cap, counts);
+    if bits::none_set(t.ahead, first, count) {
+        return unfixed_row(row, held, first, count);
+    }
     open_row(
         row,
         held,

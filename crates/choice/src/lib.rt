@@ -1,7 +1,6 @@
 // The choice of a register: positions by register, as arrays by value, one row for each class, and the furthest of a row, looked for over a lent slice.
 use rules::Pos;
 
-mod bits;
 pub mod held;
 pub mod positions;
 pub mod rows;

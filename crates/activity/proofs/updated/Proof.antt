@@ -3,7 +3,7 @@
 use borrow.Author.Needs.{needs}
 use native.Mathlib.Omega.{arith}
 use Prim.Native.Nat.{_+_, _-_, _<_}
-use Rattle.activity.proofs.UpdateLaws.{Updating, updating-starts, updating-more, updating-ends, turn-stop, turn-from, turn-fits}
+use Rattle.activity.proofs.UpdateLaws.{Updating, updating-none, class-bits, updating-starts, updating-more, updating-ends, turn-stop, turn-from, turn-fits, turn-cursor}
 use Rattle.activity.proofs.updated.Statement.{statement}
 use Rattle.activity.proofs.updated.Tie as tie
 
@@ -12,6 +12,12 @@ Inv-loop registers fragments first count start active u₀ end r₀ u r = Updati
 
 abbrev μ-loop : tie.MeasureT-loop
 μ-loop registers fragments first count start active u₀ end r₀ u r = first + count - r
+
+none-set-requires : tie.Need-none-set-requires Inv-loop μ-loop
+none-set-requires c κs = search class-bits
+
+returns : tie.Need-returns Inv-loop μ-loop
+returns c = search updating-none
 
 add-end : tie.Need-add-end Inv-loop μ-loop
 add-end c = search needs
@@ -55,6 +61,9 @@ mul-u c = search needs
 element-write-u : tie.Need-element-write-u Inv-loop μ-loop
 element-write-u c = search needs
 
+left-requires : tie.Need-left-requires Inv-loop μ-loop
+left-requires c κs = search turn-cursor
+
 add-r : tie.Need-add-r Inv-loop μ-loop
 add-r c = search needs
 
@@ -64,8 +73,8 @@ loop-less c = search needs
 loop-again : tie.Need-loop-again Inv-loop μ-loop
 loop-again c = search updating-more
 
-returns : tie.Need-returns Inv-loop μ-loop
-returns c = search updating-ends
+returns-2 : tie.Need-returns-2 Inv-loop μ-loop
+returns-2 c = search updating-ends
 
 pub updated-spec : {M : Type 1} → statement M
 updated-spec =
@@ -73,6 +82,8 @@ updated-spec =
     (tie.spec
     Inv-loop
     μ-loop
+    none-set-requires
+    returns
     add-end
     loop-holds
     mul-range-in
@@ -87,7 +98,8 @@ updated-spec =
     cast-u
     mul-u
     element-write-u
+    left-requires
     add-r
     loop-less
     loop-again
-    returns)
+    returns-2)

@@ -1,9 +1,9 @@
--- `choice::bits::with_bit` meets its contract.
+-- `activity::bits::with_bit` meets its contract.
 -- Assumes nothing.
 use borrow.Author.Needs.{needs}
-use Rattle.choice.proofs.BitLaws.{bit-set}
-use Rattle.choice.proofs.bits.with_bit.Statement.{statement}
-use Rattle.choice.proofs.bits.with_bit.Tie as tie
+use Rattle.activity.proofs.BitLaws.{bit-set}
+use Rattle.activity.proofs.bits.with_bit.Statement.{statement}
+use Rattle.activity.proofs.bits.with_bit.Tie as tie
 
 shl-result : tie.Need-shl-result
 shl-result c = search needs

@@ -1,9 +1,9 @@
--- `choice::bits::has_bit` meets its contract.
+-- `activity::bits::has_bit` meets its contract.
 -- Assumes nothing.
 use borrow.Author.Needs.{needs}
-use Rattle.choice.proofs.BitLaws.{bit-test}
-use Rattle.choice.proofs.bits.has_bit.Statement.{statement}
-use Rattle.choice.proofs.bits.has_bit.Tie as tie
+use Rattle.activity.proofs.BitLaws.{bit-test}
+use Rattle.activity.proofs.bits.has_bit.Statement.{statement}
+use Rattle.activity.proofs.bits.has_bit.Tie as tie
 
 shr-result : tie.Need-shr-result
 shr-result c = search needs

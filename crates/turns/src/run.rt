@@ -53,7 +53,7 @@ fn answer_in(way: Way, text: &mut [u8]) {
     }
 }
 
-// The bytes as a slice, apart from where they are made: a proof that meets four million zeros does not end.
+// The bytes as a slice, apart from where they are made: the prover runs out of stack where it meets four million zeros.
 fn answer_room(way: Way, text: &mut [u8; 4194305]) {
     answer_in(way, text);
 }

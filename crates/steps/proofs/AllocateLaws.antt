@@ -1,7 +1,7 @@
 -- Steps 2 and 3 in the work area are those of the rules.
 -- Assumes nothing.
 use Prim.Native.Nat.{ℕ, _+_, _≤_, _<_}
-use mathlib.Core.Path.{_≡_, sym, ap, _∙_}
+use mathlib.Core.Path.{_≡_, refl, sym, ap, _∙_}
 use mathlib.Core.Bool.{Bool, true, false}
 use mathlib.Core.List.{List, []}
 use native.Mathlib.Omega.{arith}
@@ -20,20 +20,24 @@ use Rattle.rules.specs.declared.Pos.{Pos}
 use Rattle.rules.specs.declared.Pos.the-variants.{Blocked, At, Never}
 use Rattle.rules.specs.declared.Strategy.the-variants.{From}
 use Rattle.rules.specs.Uses.{mentionPoints}
-use Rattle.rules.specs.State.{Outcome, goes, stops, goOn, piece}
+use Rattle.rules.specs.State.{Given, State, Outcome, goes, stops, goOn, piece}
 use Rattle.rules.specs.Split.{splitAndQueue, partialPlace}
 use Rattle.rules.specs.Steps.{takeRegister, allocateBlocked, takeUntil, tryAt, tryTake}
 use Rattle.store.specs.declared.Counts.{Counts}
 use Rattle.store.specs.StateOf.{stateOf, Got}
 use Rattle.store.proofs.StateLaws.{records-are}
-use Rattle.activity.specs.declared.Tracker.{Tracker}
 use Rattle.split.specs.declared.Turn.{Turn}
 use Rattle.split.specs.declared.Turn.the-variants.{On, Off}
 use Rattle.split.specs.Fit.{Fit}
 use Rattle.split.specs.Turns.{cutting, outcomeOf, Held, Does}
 use Rattle.split.proofs.NarrowLaws.{queue-any}
 use Rattle.split.proofs.TurnLaws.{on-goes, on-went, off-stops}
-use Rattle.steps.specs.Stepping.{stepping, Parting, Stepping, Taking, Took, partialAt, takePart, Stays, ended, refused, Did}
+use Rattle.steps.specs.Stepping.{stepping, Parting, Taking, Took, Tries, grantPart, grantUntil, grantOf, partialAt, takePart, Stays, ended, refused, Did}
+use Rattle.steps.specs.declared.Grant.{Grant}
+use Rattle.steps.specs.declared.Grant.the-variants.{Whole, Part, Refused}
+use Rattle.steps.specs.declared.Tried.{Tried}
+use Rattle.steps.specs.declared.Tried.the-variants.{Taken}
+use Rattle.steps.specs.declared.Tried.the-variants as tried
 use Rattle.steps.proofs.TakingLaws.{fit-take}
 
 -- the end of the piece that was read
@@ -97,66 +101,97 @@ module _ (cap : ℕ) (ms ss : List ℕ) where
     unfolding outcomeOf
     part-off a t i = record { meets = rw (off-stops cap ms ss ws ws₁ c x a _ t i); ends = refused a; long = t .long }
 
-module _ (cap n : ℕ) (m : Mode) (cs rs fs is ms ss ws : List ℕ) (c : Counts) (t : Tracker) (k : ℕ) where
-  pub stepping-parting : Stepping cap cs rs fs is ms ss ws c t k → Parting cap ms ss ws c k
-  stepping-parting h = record { ready = h .ready; fit = h .fit; inside = h .inside; room = h .room }
+-- ---- what is granted
+module _ (m : Mode) (ms : List ℕ) (q : Piece) (r a : ℕ) where
+  pub until-after : (b : Bool) → b ≡ ltb (q .end) a → b ≡ true → Whole r ≡ grantUntil m ms q r a
+  until-after b e i = rw (← e, i) refl
 
-  -- taken whole
-  whole : (ws′ : List ℕ) (d : Counts) (r : ℕ) → Stepping cap cs rs fs is ms ss ws c t k → Took cap ws ws′ c d k r → Did cap ms ss ws ws′ c (On d) (goes (takeRegister (stateOf cap ws c) k r))
-  whole ws′ d r h u = took-whole cap ms ss ws ws′ c d k r (h .fit) (rw (records-are cap ws c (h .ready)) (h .inside)) u
+  module _ (b : Bool) (e : b ≡ ltb (q .end) a) (i : b ≡ false) (x : Spot) (f : x ≡ partialAt m ms q a) where
+    pub until-part : (p : ℕ) → x ≡ Point p → Part r p ≡ grantUntil m ms q r a
+    unfolding grantPart
+    until-part p j = rw (← e, i, ← f, j) refl
 
-  -- free past the end
-  pub at-after : (ws′ : List ℕ) (r a : ℕ) (d : Counts) (b : Bool) → Stepping cap cs rs fs is ms ss ws c t k → b ≡ ltb (piece (stateOf cap ws c) k .end) a → b ≡ true → Took cap ws ws′ c d k r
-      → Did cap ms ss ws ws′ c (On d) (tryAt (stepping n m cs rs fs is ms ss cap) (stateOf cap ws c) k r (At a))
-  unfolding tryAt
-  at-after ws′ r a d b h e i u = rw (← e, i) (whole ws′ d r h u)
+    pub until-none : x ≡ Nothing → Refused ≡ grantUntil m ms q r a
+    unfolding grantPart
+    until-none j = rw (← e, i, ← f, j) refl
 
-  -- free for ever
-  pub at-never : (ws′ : List ℕ) (r : ℕ) (p : Pos) (d : Counts) → Stepping cap cs rs fs is ms ss ws c t k → p ≡ Never → Took cap ws ws′ c d k r
-      → Did cap ms ss ws ws′ c (On d) (tryAt (stepping n m cs rs fs is ms ss cap) (stateOf cap ws c) k r p)
-  unfolding tryAt
-  at-never ws′ r p d h e u = rw e (whole ws′ d r h u)
+module _ (m : Mode) (ms : List ℕ) (q : Piece) (x : Choice) where
+  pub grant-none : x ≡ AllBlocked → Refused ≡ grantOf m ms q x
+  unfolding grantOf
+  grant-none e = rw e refl
 
-  module _ (ws′ : List ℕ) (r : ℕ) (z : Turn) where
-    -- ---- free until a
-    pub until-part : (a p : ℕ) (x : Spot) → x ≡ partialAt m ms (piece (stateOf cap ws c) k) a → x ≡ Point p → Did cap ms ss ws ws′ c z (takePart ms ss cap (stateOf cap ws c) k r p)
-        → Did cap ms ss ws ws′ c z (takeUntil (stepping n m cs rs fs is ms ss cap) (stateOf cap ws c) k r (partialAt m ms (piece (stateOf cap ws c) k) a))
-    unfolding takeUntil
-    until-part a p x e i d =
-        let v : partialAt m ms (piece (stateOf cap ws c) k) a ≡ Point p = sym e ∙ i in
-        rw (v, queue-any (stepping n m cs rs fs is ms ss cap) (stateOf cap ws c) k p) d
+  module _ (r : ℕ) (p : Pos) (e : x ≡ Take r p) where
+    pub grant-blocked : p ≡ Blocked → Refused ≡ grantOf m ms q x
+    unfolding grantOf
+    grant-blocked f = rw (e, f) refl
 
-    pub until-blocked : (a : ℕ) (x : Spot) → x ≡ partialAt m ms (piece (stateOf cap ws c) k) a → x ≡ Nothing
-        → Did cap ms ss ws ws′ c z (allocateBlocked (stepping n m cs rs fs is ms ss cap) (stateOf cap ws c) k)
-        → Did cap ms ss ws ws′ c z (takeUntil (stepping n m cs rs fs is ms ss cap) (stateOf cap ws c) k r (partialAt m ms (piece (stateOf cap ws c) k) a))
-    unfolding takeUntil
-    until-blocked a x e i d = let v : partialAt m ms (piece (stateOf cap ws c) k) a ≡ Nothing = sym e ∙ i in rw v d
+    pub grant-at : (a : ℕ) (o : Grant) → p ≡ At a → o ≡ grantUntil m ms q r a → o ≡ grantOf m ms q x
+    unfolding grantOf
+    grant-at a o f g = rw (e, f) g
 
-    -- not after the end
-    pub at-within : (a : ℕ) (b : Bool) → b ≡ ltb (piece (stateOf cap ws c) k .end) a → b ≡ false
-        → Did cap ms ss ws ws′ c z (takeUntil (stepping n m cs rs fs is ms ss cap) (stateOf cap ws c) k r (partialAt m ms (piece (stateOf cap ws c) k) a))
-        → Did cap ms ss ws ws′ c z (tryAt (stepping n m cs rs fs is ms ss cap) (stateOf cap ws c) k r (At a))
-    unfolding tryAt
-    at-within a b e i d = rw (← e, i) d
+    pub grant-never : p ≡ Never → Whole r ≡ grantOf m ms q x
+    unfolding grantOf
+    grant-never f = rw (e, f) refl
 
-    -- ---- by the position
-    pub at-blocked : (p : Pos) → p ≡ Blocked → Did cap ms ss ws ws′ c z (allocateBlocked (stepping n m cs rs fs is ms ss cap) (stateOf cap ws c) k)
-        → Did cap ms ss ws ws′ c z (tryAt (stepping n m cs rs fs is ms ss cap) (stateOf cap ws c) k r p)
-    unfolding tryAt
-    at-blocked p e d = rw e d
+-- what the rules do with what is granted
+abbrev byGrant : Given → State → ℕ → Grant → Outcome
+byGrant g s k (Whole r) = goes (takeRegister s k r)
+byGrant g s k (Part r p) = goOn (splitAndQueue g s k p) (λ t. goes (takeRegister t k r))
+byGrant g s k Refused = allocateBlocked g s k
 
-    pub at-point : (p : Pos) (a : ℕ) → p ≡ At a → Did cap ms ss ws ws′ c z (tryAt (stepping n m cs rs fs is ms ss cap) (stateOf cap ws c) k r (At a))
-        → Did cap ms ss ws ws′ c z (tryAt (stepping n m cs rs fs is ms ss cap) (stateOf cap ws c) k r p)
-    at-point p a e d = rw e d
+by-part : (g : Given) (s : State) (k r : ℕ) (x : Spot) → takeUntil g s k r x ≡ byGrant g s k (grantPart r x)
+unfolding takeUntil grantPart
+by-part g s k r (Point p) = refl
+by-part g s k r Nothing = refl
 
-  -- ---- by the choice
-  module _ (ws′ : List ℕ) (z : Turn) (x : Choice) where
-    pub choice-none : x ≡ AllBlocked → Did cap ms ss ws ws′ c z (allocateBlocked (stepping n m cs rs fs is ms ss cap) (stateOf cap ws c) k)
-        → Did cap ms ss ws ws′ c z (tryTake (stepping n m cs rs fs is ms ss cap) (stateOf cap ws c) k x)
-    unfolding tryTake
-    choice-none e d = rw e d
+by-until : (g : Given) (s : State) (k r : ℕ) (b : Bool) (x : Spot) → choose b (goes (takeRegister s k r)) (takeUntil g s k r x) ≡ byGrant g s k (choose b (Whole r) (grantPart r x))
+by-until g s k r true x = refl
+by-until g s k r false x = by-part g s k r x
 
-    pub choice-some : (r : ℕ) (p : Pos) → x ≡ Take r p → Did cap ms ss ws ws′ c z (tryAt (stepping n m cs rs fs is ms ss cap) (stateOf cap ws c) k r p)
-        → Did cap ms ss ws ws′ c z (tryTake (stepping n m cs rs fs is ms ss cap) (stateOf cap ws c) k x)
-    unfolding tryTake
-    choice-some r p e d = rw e d
+by-grant : (n : ℕ) (m : Mode) (cs rs fs is ms ss : List ℕ) (cap : ℕ) (s : State) (k : ℕ) (x : Choice)
+    → tryTake (stepping n m cs rs fs is ms ss cap) s k x ≡ byGrant (stepping n m cs rs fs is ms ss cap) s k (grantOf m ms (piece s k) x)
+unfolding tryTake tryAt grantOf
+by-grant n m cs rs fs is ms ss cap s k AllBlocked = refl
+by-grant n m cs rs fs is ms ss cap s k (Take r Blocked) = refl
+by-grant n m cs rs fs is ms ss cap s k (Take r (At a)) =
+    by-until (stepping n m cs rs fs is ms ss cap) s k r (ltb (piece s k .end) a) (partialAt m ms (piece s k) a)
+by-grant n m cs rs fs is ms ss cap s k (Take r Never) = refl
+
+-- ---- what was tried
+taken-only : {z z′ : Turn} → Taken z ≡ Taken z′ → z ≡ z′
+taken-only e = cc
+
+module _ (cap : ℕ) (m : Mode) (ms ss ws : List ℕ) (c : Counts) (k : ℕ) (x : Choice) (gr : Grant) (e : gr ≡ grantOf m ms (piece (stateOf cap ws c) k) x) where
+  -- what the rules do, by what was granted
+  done : (n : ℕ) (cs rs fs is : List ℕ) (y : Grant) → gr ≡ y → tryTake (stepping n m cs rs fs is ms ss cap) (stateOf cap ws c) k x ≡ byGrant (stepping n m cs rs fs is ms ss cap) (stateOf cap ws c) k y
+  done n cs rs fs is y f = by-grant n m cs rs fs is ms ss cap (stateOf cap ws c) k x ∙ ap (byGrant (stepping n m cs rs fs is ms ss cap) (stateOf cap ws c) k) (sym e ∙ f)
+
+  pub tries-whole : (ws′ : List ℕ) (r : ℕ) (d : Counts) → Parting cap ms ss ws c k → gr ≡ Whole r → Took cap ws ws′ c d k r → Tries cap m ms ss ws ws′ c k x (Taken (On d))
+  tries-whole ws′ r d h f u =
+      record {
+        taken = λ n cs rs fs is z i.
+            let v = took-whole cap ms ss ws ws′ c d k r (h .fit) (rw (records-are cap ws c (h .ready)) (h .inside)) u in
+            rw (← taken-only i, done n cs rs fs is (Whole r) f) v;
+        blocked = λ n cs rs fs is i. absurd (let q : _≡_ {A = ℕ} 0 1 = cc in omega arith);
+        kept = λ i. absurd (let q : _≡_ {A = ℕ} 0 1 = cc in omega arith);
+      }
+
+  pub tries-part : (ws′ : List ℕ) (r p : ℕ) (w : Turn) → gr ≡ Part r p → Did cap ms ss ws ws′ c w (takePart ms ss cap (stateOf cap ws c) k r p) → Tries cap m ms ss ws ws′ c k x (Taken w)
+  tries-part ws′ r p w f d =
+      record {
+        taken = λ n cs rs fs is z i. rw (← taken-only i, done n cs rs fs is (Part r p) f, queue-any (stepping n m cs rs fs is ms ss cap) (stateOf cap ws c) k p) d;
+        blocked = λ n cs rs fs is i. absurd (let q : _≡_ {A = ℕ} 0 1 = cc in omega arith);
+        kept = λ i. absurd (let q : _≡_ {A = ℕ} 0 1 = cc in omega arith);
+      }
+
+  pub tries-none : gr ≡ Refused → Tries cap m ms ss ws ws c k x tried.Blocked
+  tries-none f =
+      record {
+        taken = λ n cs rs fs is z i. absurd (let q : _≡_ {A = ℕ} 0 1 = cc in omega arith);
+        blocked = λ n cs rs fs is i. done n cs rs fs is Refused f;
+        kept = λ i. refl;
+      }
+
+-- what a piece that may be split gives
+pub parting-taking : (cap : ℕ) (ms ss ws : List ℕ) (c : Counts) (k : ℕ) → Parting cap ms ss ws c k → Taking cap ws c k
+parting-taking cap ms ss ws c k h = record { ready = h .ready; inside = h .inside; room = h .room }

@@ -2,10 +2,12 @@
 use Prim.Native.Nat.{ℕ, _+_, _≤_, _<_}
 use mathlib.Core.Path.{_≡_}
 use mathlib.Core.List.{List, []}
+use lib.Dec.{ltb}
 use lib.ListN.{length}
 use Rattle.words.specs.Choose.{choose}
 use Rattle.words.specs.declared.Class.{Class}
 use Rattle.words.specs.declared.Spot.{Spot}
+use Rattle.words.specs.declared.Spot.the-variants.{Nothing, Point}
 use Rattle.rules.specs.declared.Piece.{Piece}
 use Rattle.rules.specs.Uses.{mentionPoints, nextUse}
 use Rattle.words.specs.Packed.{part, classAt, intervalAt, intervalCount}
@@ -16,17 +18,22 @@ use Rattle.rules.specs.declared.Holder.{Holder}
 use Rattle.rules.specs.declared.Holder.the-variants.{Held}
 use Rattle.rules.specs.declared.Mode.{Mode}
 use Rattle.rules.specs.declared.Pos.{Pos}
-use Rattle.rules.specs.declared.Pos.the-variants.{At}
+use Rattle.rules.specs.declared.Pos.the-variants.{Blocked, At, Never}
 use Rattle.rules.specs.Positions.{below}
 use Rattle.rules.specs.State.{Given, State, Outcome, goes, goOn, piece}
 use Rattle.rules.specs.declared.Strategy.the-variants.{From}
 use Rattle.rules.specs.Split.{splitAndQueue, partialPlace}
-use Rattle.rules.specs.Steps.{takeRegister, cutBefore, spillHolder, holder, furthest, spillUntil}
+use Rattle.rules.specs.Steps.{tryTake, allocateBlocked, takeRegister, cutBefore, spillHolder, holder, furthest, spillUntil}
 use Rattle.store.specs.declared.Counts.{Counts}
 use Rattle.store.specs.StateOf.{stateOf, Ready, After}
 use Rattle.activity.specs.declared.Tracker.{Tracker}
 use Rattle.activity.specs.Fixed.{Fixed}
 use Rattle.activity.specs.Cursors.{Facing}
+use Rattle.steps.specs.declared.Grant.{Grant}
+use Rattle.steps.specs.declared.Grant.the-variants.{Whole, Part, Refused}
+use Rattle.steps.specs.declared.Tried.{Tried}
+use Rattle.steps.specs.declared.Tried.the-variants.{Taken}
+use Rattle.steps.specs.declared.Tried.the-variants as tried
 use Rattle.steps.specs.declared.blocked.Kind.{Kind}
 use Rattle.split.specs.declared.Turn.{Turn}
 use Rattle.split.specs.declared.Turn.the-variants.{On, Off}
@@ -192,3 +199,26 @@ partialAt m ms q a = partialPlace m (q .start) (mentionPoints (part (q .mentions
 -- step 3's split at p, and the register taken for what is left
 abbrev pub takePart : List ℕ → List ℕ → ℕ → State → ℕ → ℕ → ℕ → Outcome
 takePart ms ss cap s k r p = goOn (splitAndQueue (cutting From [] ms ss cap) s k p) (λ t. goes (takeRegister t k r))
+
+-- ---- steps 2 and 3
+-- up to a partial split, if there is one
+unfoldable pub grantPart : ℕ → Spot → Grant
+grantPart r (Point p) = Part r p
+grantPart r Nothing = Refused
+
+-- a register that is free until a: whole where that is after the end
+abbrev pub grantUntil : Mode → List ℕ → Piece → ℕ → ℕ → Grant
+grantUntil m ms q r a = choose (ltb (q .end) a) (Whole r) (grantPart r (partialAt m ms q a))
+
+-- what a piece gets of the register that was chosen
+unfoldable pub grantOf : Mode → List ℕ → Piece → Choice → Grant
+grantOf m ms q AllBlocked = Refused
+grantOf m ms q (Take r Blocked) = Refused
+grantOf m ms q (Take r (At a)) = grantUntil m ms q r a
+grantOf m ms q (Take r Never) = Whole r
+
+-- the chosen register was tried for record k: taken as the rules say, whatever the other tables are, or step 4 is due
+pub record Tries (cap : ℕ) (m : Mode) (ms ss ws ws′ : List ℕ) (c : Counts) (k : ℕ) (x : Choice) (t : Tried) : Type 0 where
+  pub taken : (n : ℕ) (cs rs fs is : List ℕ) (z : Turn) → t ≡ Taken z → Did cap ms ss ws ws′ c z (tryTake (stepping n m cs rs fs is ms ss cap) (stateOf cap ws c) k x)
+  pub blocked : (n : ℕ) (cs rs fs is : List ℕ) → t ≡ tried.Blocked → tryTake (stepping n m cs rs fs is ms ss cap) (stateOf cap ws c) k x ≡ allocateBlocked (stepping n m cs rs fs is ms ss cap) (stateOf cap ws c) k
+  pub kept : t ≡ tried.Blocked → ws′ ≡ ws

@@ -1,7 +1,7 @@
-// Steps 2 and 3: a register that is free is taken, whole or for a part; else step 4.
-use crate::blocked;
+// Steps 2 and 3: a register that is free is taken, whole or for a part.
+use crate::Grant;
+use crate::Tried;
 use crate::taking;
-use activity::Tracker;
 use rules::Choice;
 use rules::Mode;
 use rules::Pos;
@@ -13,12 +13,10 @@ use words::Spot;
 ghost use mathlib.Core.Path.{_≡_};
 ghost use lib.Dec.{ltb};
 ghost use Prim.Native.Nat.{ℕ, _<_};
-ghost use Rattle.rules.specs.declared.Pos.the-variants.{At};
 ghost use Rattle.rules.specs.State.{piece};
-ghost use Rattle.rules.specs.Steps as rule;
 ghost use Rattle.store.specs.StateOf.{Ready, stateOf};
 ghost use Rattle.split.specs.Turns.{Held};
-ghost use Rattle.steps.specs.Stepping.{stepping, Parting, Stepping, partialAt, takePart, Did};
+ghost use Rattle.steps.specs.Stepping.{Parting, Tries, grantOf, grantUntil, partialAt, takePart, Did};
 
 // Record k ends before a.
 fn ends_before(work: &[u32], cap: usize, counts: Counts, k: usize, a: u16) -> bool
@@ -70,200 +68,91 @@ fn take_part(
     }
 }
 
-// The register is free until a, in the piece: with a partial split there it is taken for a part, else step 4.
-fn take_until(
+// The register is free until a: granted whole where that is after the end, else up to a partial split, if there is one.
+fn granted_until(
     mode: Mode,
-    instructions: u32,
-    classes: &[u32],
-    registers: &[u32],
-    fragments: &[u32],
-    intervals: &[u32],
     mentions: &[u32],
     safepoints: &[u32],
-    work: &mut [u32],
+    work: &[u32],
     cap: usize,
     counts: Counts,
-    tracker: Tracker,
     k: usize,
     r: u16,
     a: u16,
-) -> Turn
-    requires { ⌜ Stepping cap (now classes) (now registers) (now fragments) (now intervals) (now mentions) (now safepoints) (now work) counts tracker k ⌝ }
-    ensures { λ t. ⌜ Did cap (now (mentions .entry)) (now (safepoints .entry)) (now (work .entry)) (now (work .exit)) counts t (rule.takeUntil (stepping instructions mode (now (classes .entry)) (now (registers .entry)) (now (fragments .entry)) (now (intervals .entry)) (now (mentions .entry)) (now (safepoints .entry)) cap) (stateOf cap (now (work .entry)) counts) k r (partialAt mode (now (mentions .entry)) (piece (stateOf cap (now (work .entry)) counts) k) a)) ⌝ }
-{
-    let Spot::Point(p) = partial_at(mode, mentions, safepoints, work, cap, counts, k, a) else {
-        return blocked::allocate_blocked_reg(
-            mode,
-            instructions,
-            classes,
-            registers,
-            fragments,
-            intervals,
-            mentions,
-            safepoints,
-            work,
-            cap,
-            counts,
-            tracker,
-            k,
-        );
-    };
-    take_part(mentions, safepoints, work, cap, counts, k, r, p)
-}
-
-// The register is free until a: taken where that is after the end.
-fn take_at(
-    mode: Mode,
-    instructions: u32,
-    classes: &[u32],
-    registers: &[u32],
-    fragments: &[u32],
-    intervals: &[u32],
-    mentions: &[u32],
-    safepoints: &[u32],
-    work: &mut [u32],
-    cap: usize,
-    counts: Counts,
-    tracker: Tracker,
-    k: usize,
-    r: u16,
-    a: u16,
-) -> Turn
-    requires { ⌜ Stepping cap (now classes) (now registers) (now fragments) (now intervals) (now mentions) (now safepoints) (now work) counts tracker k ⌝ }
-    ensures { λ t. ⌜ Did cap (now (mentions .entry)) (now (safepoints .entry)) (now (work .entry)) (now (work .exit)) counts t (rule.tryAt (stepping instructions mode (now (classes .entry)) (now (registers .entry)) (now (fragments .entry)) (now (intervals .entry)) (now (mentions .entry)) (now (safepoints .entry)) cap) (stateOf cap (now (work .entry)) counts) k r (At a)) ⌝ }
+) -> Grant
+    requires { ⌜ Held cap (now mentions) (now safepoints) (now work) counts k ⌝ }
+    ensures { λ o. ⌜ o ≡ grantUntil mode (now (mentions .entry)) (piece (stateOf cap (now (work .entry)) counts) k) r a ⌝ }
 {
     if ends_before(work, cap, counts, k, a) {
-        return Turn::On(taking::take_register(work, cap, counts, k, r));
+        return Grant::Whole(r);
     }
-    take_until(
-        mode,
-        instructions,
-        classes,
-        registers,
-        fragments,
-        intervals,
-        mentions,
-        safepoints,
-        work,
-        cap,
-        counts,
-        tracker,
-        k,
-        r,
-        a,
-    )
+    let Spot::Point(p) = partial_at(mode, mentions, safepoints, work, cap, counts, k, a) else {
+        return Grant::Refused;
+    };
+    Grant::Part { register: r, at: p }
 }
 
-// The register at its position: blocked, free until a point, or for ever.
-fn try_at(
+// What record k gets of the register that is free the longest.
+fn granted(
     mode: Mode,
-    instructions: u32,
-    classes: &[u32],
-    registers: &[u32],
-    fragments: &[u32],
-    intervals: &[u32],
     mentions: &[u32],
     safepoints: &[u32],
-    work: &mut [u32],
+    work: &[u32],
     cap: usize,
     counts: Counts,
-    tracker: Tracker,
-    k: usize,
-    r: u16,
-    pos: Pos,
-) -> Turn
-    requires { ⌜ Stepping cap (now classes) (now registers) (now fragments) (now intervals) (now mentions) (now safepoints) (now work) counts tracker k ⌝ }
-    ensures { λ t. ⌜ Did cap (now (mentions .entry)) (now (safepoints .entry)) (now (work .entry)) (now (work .exit)) counts t (rule.tryAt (stepping instructions mode (now (classes .entry)) (now (registers .entry)) (now (fragments .entry)) (now (intervals .entry)) (now (mentions .entry)) (now (safepoints .entry)) cap) (stateOf cap (now (work .entry)) counts) k r pos) ⌝ }
-{
-    match pos {
-        Pos::Blocked => blocked::allocate_blocked_reg(
-            mode,
-            instructions,
-            classes,
-            registers,
-            fragments,
-            intervals,
-            mentions,
-            safepoints,
-            work,
-            cap,
-            counts,
-            tracker,
-            k,
-        ),
-        Pos::At(a) => take_at(
-            mode,
-            instructions,
-            classes,
-            registers,
-            fragments,
-            intervals,
-            mentions,
-            safepoints,
-            work,
-            cap,
-            counts,
-            tracker,
-            k,
-            r,
-            a,
-        ),
-        Pos::Never => Turn::On(taking::take_register(work, cap, counts, k, r)),
-    }
-}
-
-// The register that is free the longest is tried.
-pub fn try_allocate_reg(
-    mode: Mode,
-    instructions: u32,
-    classes: &[u32],
-    registers: &[u32],
-    fragments: &[u32],
-    intervals: &[u32],
-    mentions: &[u32],
-    safepoints: &[u32],
-    work: &mut [u32],
-    cap: usize,
-    counts: Counts,
-    tracker: Tracker,
     k: usize,
     choice: Choice,
-) -> Turn
-    requires { ⌜ Stepping cap (now classes) (now registers) (now fragments) (now intervals) (now mentions) (now safepoints) (now work) counts tracker k ⌝ }
-    ensures { λ t. ⌜ Did cap (now (mentions .entry)) (now (safepoints .entry)) (now (work .entry)) (now (work .exit)) counts t (rule.tryTake (stepping instructions mode (now (classes .entry)) (now (registers .entry)) (now (fragments .entry)) (now (intervals .entry)) (now (mentions .entry)) (now (safepoints .entry)) cap) (stateOf cap (now (work .entry)) counts) k choice) ⌝ }
+) -> Grant
+    requires { ⌜ Held cap (now mentions) (now safepoints) (now work) counts k ⌝ }
+    ensures { λ o. ⌜ o ≡ grantOf mode (now (mentions .entry)) (piece (stateOf cap (now (work .entry)) counts) k) choice ⌝ }
 {
-    match choice {
-        Choice::AllBlocked => blocked::allocate_blocked_reg(
+    let Choice::Take { register, pos } = choice else {
+        return Grant::Refused;
+    };
+    match pos {
+        Pos::Blocked => Grant::Refused,
+        Pos::At(a) => granted_until(
             mode,
-            instructions,
-            classes,
-            registers,
-            fragments,
-            intervals,
             mentions,
             safepoints,
             work,
             cap,
             counts,
-            tracker,
-            k,
-        ),
-        Choice::Take { register, pos } => try_at(
-            mode,
-            instructions,
-            classes,
-            registers,
-            fragments,
-            intervals,
-            mentions,
-            safepoints,
-            work,
-            cap,
-            counts,
-            tracker,
             k,
             register,
-            pos,
+            a,
         ),
+        Pos::Never => Grant::Whole(register),
+    }
+}
+
+// The register that is free the longest is tried. Step 4 is left to the caller, so that only it carries what that step reads.
+pub fn try_allocate_reg(
+    mode: Mode,
+    mentions: &[u32],
+    safepoints: &[u32],
+    work: &mut [u32],
+    cap: usize,
+    counts: Counts,
+    k: usize,
+    choice: Choice,
+) -> Tried
+    requires { ⌜ Parting cap (now mentions) (now safepoints) (now work) counts k ⌝ }
+    ensures { λ t. ⌜ Tries cap mode (now (mentions .entry)) (now (safepoints .entry)) (now (work .entry)) (now (work .exit)) counts k choice t ⌝ }
+{
+    let grant = granted(mode, mentions, safepoints, work, cap, counts, k, choice);
+    match grant {
+        Grant::Whole(r) => Tried::Taken(Turn::On(taking::take_register(work, cap, counts, k, r))),
+        Grant::Part { register, at } => Tried::Taken(take_part(
+            mentions,
+            safepoints,
+            work,
+            cap,
+            counts,
+            k,
+            register,
+            at,
+        )),
+        Grant::Refused => Tried::Blocked,
     }
 }

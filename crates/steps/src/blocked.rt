@@ -260,7 +260,7 @@ fn first_use(
 }
 
 // No mention: spill whole. Else the first use is weighed.
-pub(crate) fn allocate_blocked_reg(
+pub fn allocate_blocked_reg(
     mode: Mode,
     instructions: u32,
     classes: &[u32],

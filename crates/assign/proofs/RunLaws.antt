@@ -36,12 +36,15 @@ use Rattle.split.specs.declared.Turn.{Turn}
 use Rattle.split.specs.declared.Turn.the-variants.{On, Off}
 use Rattle.split.specs.Fit.{PieceFits, Fit}
 use Rattle.split.specs.Turns.{outcomeOf}
-use Rattle.steps.specs.Stepping.{Tabled, stepping, Did}
+use Rattle.steps.specs.Stepping.{Tabled, Stepping, stepping, Did}
 use Rattle.tables.specs.Given.{tables}
 use Rattle.assign.specs.declared.Front.{Front}
 use Rattle.assign.specs.Calling.{Checked, Begun, Ran, Ends}
 use Rattle.assign.specs.Calling as calling
-use Rattle.assign.specs.Looping.{Turning, Fronted, Trackable, trackedTo, Faces, Settles, settled}
+use Rattle.assign.specs.Looping.{Turning, Fronted, Trackable, trackedTo, Faces, Takes, Read, Settling, settled, contended}
+use Rattle.steps.specs.declared.Tried.{Tried}
+use Rattle.steps.specs.declared.Tried.the-variants.{Taken}
+use Rattle.steps.specs.declared.Tried.the-variants as tried
 use Rattle.assign.proofs.FrontLaws.{dropped-pieces}
 use Rattle.assign.proofs.SettleLaws.{did-stays}
 
@@ -164,23 +167,42 @@ module _ (n : ℕ) (m : Mode) (cs rs fs is ms ss : List ℕ) (cap : ℕ) (ws₀ 
       pub going-faces : Faces cap rs fs ws₁ f u
       going-faces = record { ready = p .ready; inside = p .inside; facing = faced }
 
-      pub going-settles : (row : List Pos) → FreeRow rs fs (stateOf cap ws₁ (f .counts)) (piece (stateOf cap ws₁ (f .counts)) (f .record)) (f .class .first) (f .class .count) row
-          → Settles cap cs rs fs is ms ss ws₁ f u (getD (set free (f .index) row) (f .index) [])
-      going-settles row h =
+      pub going-steps : Stepping cap cs rs fs is ms ss ws₁ (f .counts) u (f .record)
+      going-steps =
           record {
-            stepping =
-                record {
-                  ready = p .ready;
-                  fit = rw pieces-stay (o .fit);
-                  inside = p .inside;
-                  rows = p .rows;
-                  room = p .room;
-                  tables = tabled (tables n cs rs fs is ms ss) (o .checked .sound);
-                  facing = rw (p .class) at faced;
-                };
-            class = p .class;
-            free = rw (getD-set-same free (f .index) row [] (omega (arith, p .index, o .wide))) h;
+            ready = p .ready;
+            fit = rw pieces-stay (o .fit);
+            inside = p .inside;
+            rows = p .rows;
+            room = p .room;
+            tables = tabled (tables n cs rs fs is ms ss) (o .checked .sound);
+            facing = rw (p .class) at faced;
           }
+
+    pub going-takes : Takes cap is ms ss ws₁ f
+    going-takes =
+        record {
+          popping = record { ready = p .ready; fit = rw pieces-stay (o .fit); inside = p .inside; rows = p .rows; room = p .room };
+          registers = omega (arith, class-inside, o .checked .sound .limits .registers);
+        }
+
+    -- the row that was put into the table is taken out again
+    going-read : (row : List Pos) → FreeRow rs fs (stateOf cap ws₁ (f .counts)) (piece (stateOf cap ws₁ (f .counts)) (f .record)) (f .class .first) (f .class .count) row
+        → Read cap cs rs fs is ws₁ f (getD (set free (f .index) row) (f .index) [])
+    going-read row h = record { class = p .class; free = rw (getD-set-same free (f .index) row [] (omega (arith, p .index, o .wide))) h }
+
+    -- the turn is steps 2 to 5, of which 4 may have been called apart
+    module _ (row : List Pos) (w : FreeRow rs fs (stateOf cap ws₁ (f .counts)) (piece (stateOf cap ws₁ (f .counts)) (f .record)) (f .class .first) (f .class .count) row) (ws₂ : List ℕ) (x : Tried)
+        (y : Settling cap m is ms ss ws₁ ws₂ f (getD (set free (f .index) row) (f .index) []) x) where
+      pub did-settle : (z : Turn) → x ≡ Taken z → Did cap ms ss ws₁ ws₂ (f .counts) z (settled (stepping n m cs rs fs is ms ss cap) (stateOf cap ws₁ (f .counts)) (f .record))
+      did-settle z q = y .taken n cs rs fs (going-read row w) z q
+
+      pub still-steps : (u : Tracker) → u ≡ trackedTo rs fs t f → x ≡ tried.Blocked → Stepping cap cs rs fs is ms ss ws₂ (f .counts) u (f .record)
+      still-steps u moves q = rw (y .kept q) (going-steps u moves)
+
+      pub did-contend : (ws₃ : List ℕ) (z : Turn) → x ≡ tried.Blocked → Did cap ms ss ws₂ ws₃ (f .counts) z (contended (stepping n m cs rs fs is ms ss cap) (stateOf cap ws₂ (f .counts)) (f .record))
+          → Did cap ms ss ws₁ ws₃ (f .counts) z (settled (stepping n m cs rs fs is ms ss cap) (stateOf cap ws₁ (f .counts)) (f .record))
+      did-contend ws₃ z q d = rw (y .blocked n cs rs fs (going-read row w) q) (rw (y .kept q) at d)
 
     module _ (ws₂ : List ℕ) (r : Turn) (h : turn < cap) (d : Did cap ms ss ws₁ ws₂ (f .counts) r (settled (stepping n m cs rs fs is ms ss cap) (stateOf cap ws₁ (f .counts)) (f .record))) where
       -- the turn is the rules' step

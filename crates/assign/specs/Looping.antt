@@ -4,16 +4,24 @@ use mathlib.Core.Path.{_≡_}
 use mathlib.Core.List.{List, _∷_}
 use lib.ListN.{length}
 use Rattle.words.specs.Packed.{classAt, intervalAt, intervalCount}
+use Rattle.rules.specs.declared.Answer.{Answer}
+use Rattle.rules.specs.declared.Mode.{Mode}
 use Rattle.rules.specs.declared.Pos.{Pos}
+use Rattle.rules.specs.declared.Strategy.{Strategy}
 use Rattle.rules.specs.State.{Given, State, Outcome, goOn, piece, withQueue, recordOfKey}
-use Rattle.rules.specs.Steps.{dropEnded, allocate, handleSafepoints}
+use Rattle.rules.specs.Steps.{dropEnded, allocateBlocked, allocate, handleSafepoints}
 use Rattle.store.specs.declared.Counts.{Counts}
 use Rattle.store.specs.StateOf.{stateOf, Ready}
 use Rattle.activity.specs.declared.Tracker.{Tracker}
 use Rattle.activity.specs.Cursors.{Facing, advanced}
 use Rattle.activity.specs.Cursors as cursors
 use Rattle.choice.specs.Holding.{FreeRow}
-use Rattle.steps.specs.Stepping.{classFor, Stepping}
+use Rattle.split.specs.declared.Turn.{Turn}
+use Rattle.split.specs.declared.Turn.the-variants.{On, Off}
+use Rattle.split.specs.Turns.{cutting, HeldOf, Does}
+use Rattle.steps.specs.declared.Tried.{Tried}
+use Rattle.steps.specs.declared.Tried.the-variants.{Taken, Blocked}
+use Rattle.steps.specs.Stepping.{classFor, stepping, Popping, Did}
 use Rattle.assign.specs.declared.Start.{Start}
 use Rattle.assign.specs.declared.Front.{Front}
 
@@ -73,12 +81,38 @@ pub record Faces (cap : ℕ) (rs fs ws : List ℕ) (f : Front) (t : Tracker) : T
   pub inside : f .record < f .counts .records
   pub facing : Facing rs fs (piece (stateOf cap ws (f .counts)) (f .record) .start) (f .class .first) (f .class .count) t
 
--- .. and its class has this row of free-until positions
-pub record Settles (cap : ℕ) (cs rs fs is ms ss ws : List ℕ) (f : Front) (t : Tracker) (row : List Pos) : Type 0 where
-  pub stepping : Stepping cap cs rs fs is ms ss ws (f .counts) t (f .record)
-  pub class : f .class ≡ classFor cs is (stateOf cap ws (f .counts)) (f .record)
-  pub free : FreeRow rs fs (stateOf cap ws (f .counts)) (piece (stateOf cap ws (f .counts)) (f .record)) (f .class .first) (f .class .count) row
+-- a front's record can take a register of its class
+pub record Takes (cap : ℕ) (is ms ss ws : List ℕ) (f : Front) : Type 0 where
+  pub popping : Popping cap is ms ss ws (f .counts) (f .record)
+  pub registers : f .class .first + f .class .count ≤ 64
+
+-- record k can be looked at for its safepoints, where steps 2 to 4 went on
+pub record Finishing (cap : ℕ) (is ms ss ws : List ℕ) (k : ℕ) (x : Turn) : Type 0 where
+  pub held : (c : Counts) → x ≡ On c → HeldOf cap is ms ss ws c k
+
+-- .. and was
+pub record Finished (cap : ℕ) (z : Strategy) (is ms ss ws ws′ : List ℕ) (k : ℕ) (x r : Turn) : Type 0 where
+  pub on : (c : Counts) → x ≡ On c → Does cap ms ss ws ws′ c r (handleSafepoints (cutting z is ms ss cap) (stateOf cap ws c) k)
+  pub off : (a : Answer) → x ≡ Off a → r ≡ Off a
+  pub kept : (a : Answer) → x ≡ Off a → ws′ ≡ ws
 
 -- steps 2 to 5, once what ended is dropped
 abbrev pub settled : Given → State → ℕ → Outcome
 settled g s k = goOn (allocate g s k) (λ t. handleSafepoints g t k)
+
+-- steps 4 and 5
+abbrev pub contended : Given → State → ℕ → Outcome
+contended g s k = goOn (allocateBlocked g s k) (λ t. handleSafepoints g t k)
+
+-- a front's class, and its row of free-until positions, are those of the tables
+pub record Read (cap : ℕ) (cs rs fs is ws : List ℕ) (f : Front) (row : List Pos) : Type 0 where
+  pub class : f .class ≡ classFor cs is (stateOf cap ws (f .counts)) (f .record)
+  pub free : FreeRow rs fs (stateOf cap ws (f .counts)) (piece (stateOf cap ws (f .counts)) (f .record)) (f .class .first) (f .class .count) row
+
+-- the front's record was settled as the rules say, whatever tables its class and row are of; or steps 4 and 5 are due
+pub record Settling (cap : ℕ) (m : Mode) (is ms ss ws ws′ : List ℕ) (f : Front) (row : List Pos) (t : Tried) : Type 0 where
+  pub taken : (n : ℕ) (cs rs fs : List ℕ) → Read cap cs rs fs is ws f row → (z : Turn) → t ≡ Taken z
+      → Did cap ms ss ws ws′ (f .counts) z (settled (stepping n m cs rs fs is ms ss cap) (stateOf cap ws (f .counts)) (f .record))
+  pub blocked : (n : ℕ) (cs rs fs : List ℕ) → Read cap cs rs fs is ws f row → t ≡ Blocked
+      → settled (stepping n m cs rs fs is ms ss cap) (stateOf cap ws (f .counts)) (f .record) ≡ contended (stepping n m cs rs fs is ms ss cap) (stateOf cap ws (f .counts)) (f .record)
+  pub kept : t ≡ Blocked → ws′ ≡ ws

@@ -4,6 +4,7 @@ use crate::settling;
 use choice::rows;
 use rules::Mode;
 use split::Turn;
+use steps::Tried;
 use store::Counts;
 ghost use Rattle.tables.specs.Given.{tables};
 ghost use Rattle.assign.specs.Calling.{Begun, Ran};
@@ -29,16 +30,24 @@ pub(crate) fn run(
     let mut free = rows::never_rows();
     let mut turn = 0;
     while turn < cap {
+        turn += 1;
         if c.queued == 0 {
             return Turn::On(c);
         }
         let f = fronts::front(classes, intervals, work, cap, c);
         t = fronts::track(registers, fragments, t, f);
         let index = f.index;
-        let old = free[index];
-        free[index] = fronts::free_row(old, registers, fragments, work, cap, f, t);
+        free[index] = fronts::free_row(free[index], registers, fragments, work, cap, f, t);
         let row = free[index];
-        let settled = settling::settle(
+        let settled = settling::settle(mode, intervals, mentions, safepoints, work, cap, f, row);
+        if let Tried::Taken(done) = settled {
+            match done {
+                Turn::On(next) => c = next,
+                Turn::Off(answer) => return Turn::Off(answer),
+            }
+            continue;
+        }
+        match settling::contend(
             mode,
             instructions,
             classes,
@@ -51,13 +60,10 @@ pub(crate) fn run(
             cap,
             f,
             t,
-            row,
-        );
-        match settled {
+        ) {
             Turn::On(next) => c = next,
             Turn::Off(answer) => return Turn::Off(answer),
         }
-        turn += 1;
     }
     Turn::On(c)
 }

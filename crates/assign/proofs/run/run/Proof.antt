@@ -3,16 +3,16 @@
 use borrow.Author.Needs.{needs}
 use native.Mathlib.Omega.{arith}
 use Prim.Native.Nat.{_-_}
-use Rattle.assign.proofs.RunLaws.{Going, going-few, going-starts, going-turns, going-empty, going-out, going-tracks, going-faces, going-settles, going-on, going-off}
+use Rattle.assign.proofs.RunLaws.{Going, going-few, going-starts, going-turns, going-empty, going-out, going-tracks, going-faces, going-takes, did-settle, still-steps, did-contend, going-on, going-off}
 use Rattle.assign.proofs.run.run.Statement.{statement}
 use Rattle.assign.proofs.run.run.Tie as tie
 
 abbrev Inv-loop : tie.InvT-loop
-Inv-loop mode instructions classes registers fragments intervals mentions safepoints work₀ cap counts₀ tracker₀ free₀ turn₀ work counts tracker free turn =
-    Going instructions mode classes registers fragments intervals mentions safepoints cap work₀ work counts tracker free turn
+Inv-loop mode instructions classes registers fragments intervals mentions safepoints work₀ cap c₀ t₀ free₀ turn₀ work c t free turn =
+    Going instructions mode classes registers fragments intervals mentions safepoints cap work₀ work c t free turn
 
 abbrev μ-loop : tie.MeasureT-loop
-μ-loop mode instructions classes registers fragments intervals mentions safepoints work₀ cap counts₀ tracker₀ free₀ turn₀ work counts tracker free turn =
+μ-loop mode instructions classes registers fragments intervals mentions safepoints work₀ cap c₀ t₀ free₀ turn₀ work c t free turn =
     cap - turn
 
 fresh-requires : tie.Need-fresh-requires Inv-loop μ-loop
@@ -23,6 +23,9 @@ never-rows-requires c κs = search needs
 
 loop-holds : tie.Need-loop-holds Inv-loop μ-loop
 loop-holds c = search going-starts
+
+add-turn : tie.Need-add-turn Inv-loop μ-loop
+add-turn c = search needs
 
 same-length : tie.Need-same-length Inv-loop μ-loop
 same-length c = search needs
@@ -36,11 +39,11 @@ front-requires c κs = (search going-turns, search needs)
 track-requires : tie.Need-track-requires Inv-loop μ-loop
 track-requires c κs = search going-tracks
 
-mul-old : tie.Need-mul-old Inv-loop μ-loop
-mul-old c = search needs
+mul-free-row : tie.Need-mul-free-row Inv-loop μ-loop
+mul-free-row c = search needs
 
-array-copy-out-old : tie.Need-array-copy-out-old Inv-loop μ-loop
-array-copy-out-old c = search needs
+array-copy-out-free-row : tie.Need-array-copy-out-free-row Inv-loop μ-loop
+array-copy-out-free-row c = search needs
 
 free-row-requires : tie.Need-free-row-requires Inv-loop μ-loop
 free-row-requires c κs = search going-faces
@@ -59,39 +62,42 @@ array-copy-out-row c = search needs
 
 settle-requires : tie.Need-settle-requires Inv-loop μ-loop
 settle-requires c κs =
-    let after-free-row : tie.After-free-row Inv-loop μ-loop = search needs in
-    let after-track : tie.After-track Inv-loop μ-loop = search needs in
     let after-front : tie.After-front Inv-loop μ-loop = search needs in
     let at-loop : tie.At-loop Inv-loop μ-loop = search needs in
-    going-settles _ _ _ _ _ _ _ _ _ _ _ _ _ _ _ (at-loop .loop .inv) _ _ (after-front .front .ensures) _ (after-track .track .ensures) _ (after-free-row .free-row .ensures)
+    going-takes _ _ _ _ _ _ _ _ _ _ _ _ _ _ _ (at-loop .loop .inv) _ _ (after-front .front .ensures)
 
 enum-known-settled : tie.Need-enum-known-settled Inv-loop μ-loop
 enum-known-settled c = search needs
 
-enum-known-settled-2 : tie.Need-enum-known-settled-2 Inv-loop μ-loop
-enum-known-settled-2 c = search needs
+enum-known-done : tie.Need-enum-known-done Inv-loop μ-loop
+enum-known-done c = search needs
+
+enum-known-done-2 : tie.Need-enum-known-done-2 Inv-loop μ-loop
+enum-known-done-2 c = search needs
 
 same-length-2 : tie.Need-same-length-2 Inv-loop μ-loop
 same-length-2 c =
+    let after-settled : tie.After-settled Inv-loop μ-loop = search needs in
     let after-settle : tie.After-settle Inv-loop μ-loop = search needs in
+    let after-free-row : tie.After-free-row Inv-loop μ-loop = search needs in
+    let after-track : tie.After-track Inv-loop μ-loop = search needs in
     let after-front : tie.After-front Inv-loop μ-loop = search needs in
     let at-loop : tie.At-loop Inv-loop μ-loop = search needs in
+    let d = did-settle _ _ _ _ _ _ _ _ _ _ _ _ _ _ _ (at-loop .loop .inv) _ _ (after-front .front .ensures) _ (after-free-row .free-row .ensures) _ _ (after-settle .settle .ensures) _ (after-settled .settled .given .1) in
     search needs
 
 returns-2 : tie.Need-returns-2 Inv-loop μ-loop
 returns-2 c =
+    let after-done2 : tie.After-done2 Inv-loop μ-loop = search needs in
+    let after-settled : tie.After-settled Inv-loop μ-loop = search needs in
     let after-settle : tie.After-settle Inv-loop μ-loop = search needs in
-    let after-front : tie.After-front Inv-loop μ-loop = search needs in
-    let at-loop : tie.At-loop Inv-loop μ-loop = search needs in
-    search going-off
-
-add-turn : tie.Need-add-turn Inv-loop μ-loop
-add-turn c =
-    let after-settle : tie.After-settle Inv-loop μ-loop = search needs in
+    let after-free-row : tie.After-free-row Inv-loop μ-loop = search needs in
+    let after-track : tie.After-track Inv-loop μ-loop = search needs in
     let after-front : tie.After-front Inv-loop μ-loop = search needs in
     let in-loop : tie.In-loop Inv-loop μ-loop = search needs in
     let at-loop : tie.At-loop Inv-loop μ-loop = search needs in
-    search needs
+    let d = did-settle _ _ _ _ _ _ _ _ _ _ _ _ _ _ _ (at-loop .loop .inv) _ _ (after-front .front .ensures) _ (after-free-row .free-row .ensures) _ _ (after-settle .settle .ensures) _ (after-settled .settled .given .1) in
+    search going-off
 
 loop-less : tie.Need-loop-less Inv-loop μ-loop
 loop-less c =
@@ -103,19 +109,90 @@ loop-less c =
 
 loop-again : tie.Need-loop-again Inv-loop μ-loop
 loop-again c =
+    let after-done : tie.After-done Inv-loop μ-loop = search needs in
     let after-settled : tie.After-settled Inv-loop μ-loop = search needs in
     let after-settle : tie.After-settle Inv-loop μ-loop = search needs in
+    let after-free-row : tie.After-free-row Inv-loop μ-loop = search needs in
     let after-track : tie.After-track Inv-loop μ-loop = search needs in
     let after-front : tie.After-front Inv-loop μ-loop = search needs in
     let in-loop : tie.In-loop Inv-loop μ-loop = search needs in
     let at-loop : tie.At-loop Inv-loop μ-loop = search needs in
+    let d = did-settle _ _ _ _ _ _ _ _ _ _ _ _ _ _ _ (at-loop .loop .inv) _ _ (after-front .front .ensures) _ (after-free-row .free-row .ensures) _ _ (after-settle .settle .ensures) _ (after-settled .settled .given .1) in
     search going-on
 
+enum-told : tie.Need-enum-told Inv-loop μ-loop
+enum-told c = search needs
+
+contend-requires : tie.Need-contend-requires Inv-loop μ-loop
+contend-requires c κs =
+    let after-enum-told : tie.After-enum-told Inv-loop μ-loop = search needs in
+    let after-settle : tie.After-settle Inv-loop μ-loop = search needs in
+    let after-free-row : tie.After-free-row Inv-loop μ-loop = search needs in
+    let after-track : tie.After-track Inv-loop μ-loop = search needs in
+    let after-front : tie.After-front Inv-loop μ-loop = search needs in
+    let at-loop : tie.At-loop Inv-loop μ-loop = search needs in
+    still-steps _ _ _ _ _ _ _ _ _ _ _ _ _ _ _ (at-loop .loop .inv) _ _ (after-front .front .ensures) _ (after-free-row .free-row .ensures) _ _ (after-settle .settle .ensures) _ (after-track .track .ensures) (after-enum-told .enum-told .given .1)
+
+enum-known-next : tie.Need-enum-known-next Inv-loop μ-loop
+enum-known-next c = search needs
+
+loop-less-2 : tie.Need-loop-less-2 Inv-loop μ-loop
+loop-less-2 c =
+    let after-contend : tie.After-contend Inv-loop μ-loop = search needs in
+    let after-settle : tie.After-settle Inv-loop μ-loop = search needs in
+    let after-front : tie.After-front Inv-loop μ-loop = search needs in
+    let in-loop : tie.In-loop Inv-loop μ-loop = search needs in
+    let at-loop : tie.At-loop Inv-loop μ-loop = search needs in
+    search needs
+
+loop-again-2 : tie.Need-loop-again-2 Inv-loop μ-loop
+loop-again-2 c =
+    let after-next : tie.After-next Inv-loop μ-loop = search needs in
+    let after-contend : tie.After-contend Inv-loop μ-loop = search needs in
+    let after-enum-told : tie.After-enum-told Inv-loop μ-loop = search needs in
+    let after-settle : tie.After-settle Inv-loop μ-loop = search needs in
+    let after-free-row : tie.After-free-row Inv-loop μ-loop = search needs in
+    let after-track : tie.After-track Inv-loop μ-loop = search needs in
+    let after-front : tie.After-front Inv-loop μ-loop = search needs in
+    let in-loop : tie.In-loop Inv-loop μ-loop = search needs in
+    let at-loop : tie.At-loop Inv-loop μ-loop = search needs in
+    let d = did-contend _ _ _ _ _ _ _ _ _ _ _ _ _ _ _ (at-loop .loop .inv) _ _ (after-front .front .ensures) _ (after-free-row .free-row .ensures) _ _ (after-settle .settle .ensures) _ _ (after-enum-told .enum-told .given .1) (after-contend .contend .ensures) in
+    search going-on
+
+enum-known-answer : tie.Need-enum-known-answer Inv-loop μ-loop
+enum-known-answer c = search needs
+
 same-length-3 : tie.Need-same-length-3 Inv-loop μ-loop
-same-length-3 c = search needs
+same-length-3 c =
+    let after-contend : tie.After-contend Inv-loop μ-loop = search needs in
+    let after-enum-told : tie.After-enum-told Inv-loop μ-loop = search needs in
+    let after-settle : tie.After-settle Inv-loop μ-loop = search needs in
+    let after-free-row : tie.After-free-row Inv-loop μ-loop = search needs in
+    let after-track : tie.After-track Inv-loop μ-loop = search needs in
+    let after-front : tie.After-front Inv-loop μ-loop = search needs in
+    let at-loop : tie.At-loop Inv-loop μ-loop = search needs in
+    let d = did-contend _ _ _ _ _ _ _ _ _ _ _ _ _ _ _ (at-loop .loop .inv) _ _ (after-front .front .ensures) _ (after-free-row .free-row .ensures) _ _ (after-settle .settle .ensures) _ _ (after-enum-told .enum-told .given .1) (after-contend .contend .ensures) in
+    search needs
 
 returns-3 : tie.Need-returns-3 Inv-loop μ-loop
-returns-3 c = search going-out
+returns-3 c =
+    let after-answer : tie.After-answer Inv-loop μ-loop = search needs in
+    let after-contend : tie.After-contend Inv-loop μ-loop = search needs in
+    let after-enum-told : tie.After-enum-told Inv-loop μ-loop = search needs in
+    let after-settle : tie.After-settle Inv-loop μ-loop = search needs in
+    let after-free-row : tie.After-free-row Inv-loop μ-loop = search needs in
+    let after-track : tie.After-track Inv-loop μ-loop = search needs in
+    let after-front : tie.After-front Inv-loop μ-loop = search needs in
+    let in-loop : tie.In-loop Inv-loop μ-loop = search needs in
+    let at-loop : tie.At-loop Inv-loop μ-loop = search needs in
+    let d = did-contend _ _ _ _ _ _ _ _ _ _ _ _ _ _ _ (at-loop .loop .inv) _ _ (after-front .front .ensures) _ (after-free-row .free-row .ensures) _ _ (after-settle .settle .ensures) _ _ (after-enum-told .enum-told .given .1) (after-contend .contend .ensures) in
+    search going-off
+
+same-length-4 : tie.Need-same-length-4 Inv-loop μ-loop
+same-length-4 c = search needs
+
+returns-4 : tie.Need-returns-4 Inv-loop μ-loop
+returns-4 c = search going-out
 
 pub run-spec : {M : Type 1} → statement M
 run-spec =
@@ -126,12 +203,13 @@ run-spec =
     fresh-requires
     never-rows-requires
     loop-holds
+    add-turn
     same-length
     returns
     front-requires
     track-requires
-    mul-old
-    array-copy-out-old
+    mul-free-row
+    array-copy-out-free-row
     free-row-requires
     mul-free
     array-set-from-free
@@ -139,11 +217,19 @@ run-spec =
     array-copy-out-row
     settle-requires
     enum-known-settled
-    enum-known-settled-2
+    enum-known-done
+    enum-known-done-2
     same-length-2
     returns-2
-    add-turn
     loop-less
     loop-again
+    enum-told
+    contend-requires
+    enum-known-next
+    loop-less-2
+    loop-again-2
+    enum-known-answer
     same-length-3
-    returns-3)
+    returns-3
+    same-length-4
+    returns-4)

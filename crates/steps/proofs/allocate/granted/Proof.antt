@@ -27,13 +27,13 @@ enum-told-3 : tie.Need-enum-told-3
 enum-told-3 c = search needs
 
 returns-2 : tie.Need-returns-2
-returns-2 c = search (grant-blocked, grant-at, grant-never)
+returns-2 c = search grant-blocked
 
 returns-3 : tie.Need-returns-3
-returns-3 c = search (grant-blocked, grant-at, grant-never)
+returns-3 c = search grant-at
 
 returns-4 : tie.Need-returns-4
-returns-4 c = search (grant-blocked, grant-at, grant-never)
+returns-4 c = search grant-never
 
 pub granted-spec : {M : Type 1} → statement M
 granted-spec =

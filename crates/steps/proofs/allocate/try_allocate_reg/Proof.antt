@@ -27,19 +27,19 @@ same-length : tie.Need-same-length
 same-length c = search needs
 
 returns : tie.Need-returns
-returns c = search (tries-whole, tries-part, tries-none)
+returns c = search tries-whole
 
 same-length-2 : tie.Need-same-length-2
 same-length-2 c = search needs
 
 returns-2 : tie.Need-returns-2
-returns-2 c = search (tries-whole, tries-part, tries-none)
+returns-2 c = search tries-part
 
 same-length-3 : tie.Need-same-length-3
 same-length-3 c = search needs
 
 returns-3 : tie.Need-returns-3
-returns-3 c = search (tries-whole, tries-part, tries-none)
+returns-3 c = search tries-none
 
 pub try-allocate-reg-spec : {M : Type 1} → statement M
 try-allocate-reg-spec =

@@ -2,6 +2,7 @@
 -- Assumes nothing.
 use Prim.Native.Nat.{ℕ, _+_, _≤_, _<_}
 use mathlib.Core.Path.{_≡_, refl, sym, ap, _∙_}
+use mathlib.Core.Bool.{Bool, false}
 use mathlib.Core.List.{List, []}
 use native.Mathlib.Omega.{arith}
 use lib.ListN.{length}
@@ -16,14 +17,15 @@ use Rattle.rules.specs.declared.Strategy.{Strategy}
 use Rattle.rules.specs.State.{Given, State, Outcome, goes, stops, goOn, piece}
 use Rattle.rules.specs.Steps.{furthest, furthestOf, freeUntil, tryTake, allocateBlocked, allocate, handleSafepoints}
 use Rattle.store.specs.declared.Counts.{Counts}
-use Rattle.store.specs.StateOf.{stateOf}
+use Rattle.store.specs.StateOf.{stateOf, Ready}
 use Rattle.choice.specs.Row.{posIn}
 use Rattle.choice.proofs.ChoiceLaws.{free-choice}
 use Rattle.activity.specs.declared.Tracker.{Tracker}
 use Rattle.split.specs.declared.Turn.{Turn}
 use Rattle.split.specs.declared.Turn.the-variants.{On, Off}
 use Rattle.split.specs.Turns.{cutting, outcomeOf, HeldOf, Does}
-use Rattle.safepoints.proofs.SafepointLaws.{handle-narrow}
+use Rattle.safepoints.specs.Safepoint.{looking}
+use Rattle.safepoints.proofs.SafepointLaws.{handle-narrow, passed}
 use Rattle.steps.specs.declared.Tried.{Tried}
 use Rattle.steps.specs.declared.Tried.the-variants.{Taken}
 use Rattle.steps.specs.declared.Tried.the-variants as tried
@@ -45,8 +47,18 @@ pub take-tries : (cap : ℕ) (m : Mode) (ms ss ws ws′ : List ℕ) (c : Counts)
 take-tries cap m ms ss ws ws′ c k x y t h e = rw e at h
 
 -- ---- step 5 by itself
-pub finish-held : (cap : ℕ) (is ms ss ws : List ℕ) (k : ℕ) (x : Turn) (c : Counts) → Finishing cap is ms ss ws k x → x ≡ On c → HeldOf cap is ms ss ws c k
-finish-held cap is ms ss ws k x c h q = h .held c q
+module _ (cap : ℕ) (is ms ss ws : List ℕ) (k : ℕ) (x : Turn) (c : Counts) (h : Finishing cap is ms ss ws k x) (q : x ≡ On c) where
+  pub finish-held : HeldOf cap is ms ss ws c k
+  finish-held = h .held c q
+
+  pub finish-ready : Ready cap ws c
+  finish-ready = h .held c q .ready
+
+  pub finish-inside : k < c .records
+  finish-inside = h .held c q .inside
+
+  pub finish-rows : c .intervals ≡ intervalCount is
+  finish-rows = h .held c q .rows
 
 module _ (cap : ℕ) (z : Strategy) (is ms ss ws ws′ : List ℕ) (k : ℕ) (x : Turn) where
   pub finish-on : (c : Counts) (r : Turn) → x ≡ On c → Does cap ms ss ws ws′ c r (handleSafepoints (cutting z is ms ss cap) (stateOf cap ws c) k) → Finished cap z is ms ss ws ws′ k x r
@@ -56,6 +68,10 @@ module _ (cap : ℕ) (z : Strategy) (is ms ss ws ws′ : List ℕ) (k : ℕ) (x 
         off = λ a i. absurd (let y : _≡_ {A = ℕ} 0 1 = cc in omega arith);
         kept = λ a i. absurd (let y : _≡_ {A = ℕ} 0 1 = cc in omega arith);
       }
+
+pub finish-past : (cap : ℕ) (z : Strategy) (is ms ss ws : List ℕ) (k : ℕ) (x : Turn) (c : Counts) (b : Bool) → Finishing cap is ms ss ws k x → x ≡ On c
+    → b ≡ looking is (piece (stateOf cap ws c) k) → b ≡ false → Finished cap z is ms ss ws ws k x (On c)
+finish-past cap z is ms ss ws k x c b h q e t = finish-on cap z is ms ss ws ws k x c (On c) q (passed cap is ms ss ws c k z b e (h .held c q) t)
 
 pub finish-off : (cap : ℕ) (z : Strategy) (is ms ss ws : List ℕ) (k : ℕ) (x : Turn) (a : Answer) → x ≡ Off a → Finished cap z is ms ss ws ws k x (Off a)
 finish-off cap z is ms ss ws k x a q =

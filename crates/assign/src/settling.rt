@@ -66,16 +66,22 @@ fn finish(
     ensures { λ r. ⌜ Finished cap strategy (now (intervals .entry)) (now (mentions .entry)) (now (safepoints .entry)) (now (work .entry)) (now (work .exit)) k taken r ⌝ }
 {
     match taken {
-        Turn::On(after) => safepoints::maybe_handle_safepoints(
-            strategy,
-            intervals,
-            mentions,
-            safepoints,
-            work,
-            cap,
-            after,
-            k,
-        ),
+        Turn::On(after) => {
+            // asked here, so that most pops go on without a call
+            if safepoints::looks_at(intervals, work, cap, after, k) {
+                return safepoints::maybe_handle_safepoints(
+                    strategy,
+                    intervals,
+                    mentions,
+                    safepoints,
+                    work,
+                    cap,
+                    after,
+                    k,
+                );
+            }
+            Turn::On(after)
+        }
         Turn::Off(answer) => Turn::Off(answer),
     }
 }

@@ -131,22 +131,25 @@ module _ (cap : ℕ) (is ms ss : List ℕ) where
             let same : getD ss (q .safepoints .index) 0 ≡ x = cc (first-is (q .safepoints) ss up some) in
             omega (arith, same, up .below (q .safepoints .index) (omega (arith, up .inside), omega arith))
 
-    module _ (y : Strategy) (b : Bool) where
-      -- a reference piece in a register
-      pub looked : (ws′ : List ℕ) (r : Turn) → Got cap ws c k q → b ≡ looking is q → b ≡ true
-          → Does cap ms ss ws ws′ c r (atFirst (cutting y is ms ss cap) (stateOf cap ws c) k) → Does cap ms ss ws ws′ c r (handleSafepoints (cutting y is ms ss cap) (stateOf cap ws c) k)
-      unfolding handleSafepoints
-      looked ws′ r g e t d =
-          let e′ : looking is (piece (stateOf cap ws c) k) ≡ true = rw (g .is) at (sym e ∙ t) in
-          does-as cap ms ss ws ws′ c r (atFirst (cutting y is ms ss cap) (stateOf cap ws c) k) _ (sym (ap (λ (t : Bool). choose t (atFirst (cutting y is ms ss cap) (stateOf cap ws c) k) (goes (stateOf cap ws c))) e′)) d
+-- ---- whether it looks
+pub looks-read : (cap : ℕ) (is ws : List ℕ) (c : Counts) (k : ℕ) (q : Piece) (b : Bool) → Got cap ws c k q → b ≡ looking is q → b ≡ looking is (piece (stateOf cap ws c) k)
+looks-read cap is ws c k q b g e = rw (g .is) at e
 
-      -- any other
-      pub passed : HeldOf cap is ms ss ws c k → Got cap ws c k q → b ≡ looking is q → b ≡ false
-          → Does cap ms ss ws ws c (On c) (handleSafepoints (cutting y is ms ss cap) (stateOf cap ws c) k)
-      unfolding handleSafepoints
-      passed h g e t =
-          let e′ : looking is (piece (stateOf cap ws c) k) ≡ false = rw (g .is) at (sym e ∙ t) in
-          stays cap ms ss ws c k _ (record { ready = h .ready; fit = h .fit; inside = h .inside }) (sym (ap (λ (t : Bool). choose t (atFirst (cutting y is ms ss cap) (stateOf cap ws c) k) (goes (stateOf cap ws c))) e′))
+module _ (cap : ℕ) (is ms ss ws : List ℕ) (c : Counts) (k : ℕ) (y : Strategy) (b : Bool) (e : b ≡ looking is (piece (stateOf cap ws c) k)) where
+  -- a reference piece in a register
+  pub looked : (ws′ : List ℕ) (r : Turn) → b ≡ true → Does cap ms ss ws ws′ c r (atFirst (cutting y is ms ss cap) (stateOf cap ws c) k)
+      → Does cap ms ss ws ws′ c r (handleSafepoints (cutting y is ms ss cap) (stateOf cap ws c) k)
+  unfolding handleSafepoints
+  looked ws′ r t d =
+      let e′ : looking is (piece (stateOf cap ws c) k) ≡ true = sym e ∙ t in
+      does-as cap ms ss ws ws′ c r (atFirst (cutting y is ms ss cap) (stateOf cap ws c) k) _ (sym (ap (λ (t : Bool). choose t (atFirst (cutting y is ms ss cap) (stateOf cap ws c) k) (goes (stateOf cap ws c))) e′)) d
+
+  -- any other
+  pub passed : HeldOf cap is ms ss ws c k → b ≡ false → Does cap ms ss ws ws c (On c) (handleSafepoints (cutting y is ms ss cap) (stateOf cap ws c) k)
+  unfolding handleSafepoints
+  passed h t =
+      let e′ : looking is (piece (stateOf cap ws c) k) ≡ false = sym e ∙ t in
+      stays cap ms ss ws c k _ (record { ready = h .ready; fit = h .fit; inside = h .inside }) (sym (ap (λ (t : Bool). choose t (atFirst (cutting y is ms ss cap) (stateOf cap ws c) k) (goes (stateOf cap ws c))) e′))
 
 -- of a piece in a register the interval decides
 pub looks-register : (is : List ℕ) (q : Piece) (r : ℕ) (b : Bool) → q .place ≡ Register r → b ≡ intervalAt is (q .interval) .reference → b ≡ looking is q

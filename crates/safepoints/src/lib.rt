@@ -15,7 +15,8 @@ ghost use Prim.Native.Nat.{ℕ, _<_};
 ghost use Rattle.words.specs.Packed.{intervalAt, intervalCount};
 ghost use Rattle.rules.specs.declared.Strategy.the-variants.{From};
 ghost use Rattle.rules.specs.Steps.{handleSafepoints};
-ghost use Rattle.store.specs.StateOf.{stateOf};
+ghost use Rattle.rules.specs.State.{piece};
+ghost use Rattle.store.specs.StateOf.{Ready, stateOf};
 ghost use Rattle.split.specs.Turns.{cutting, HeldOf, Does};
 ghost use Rattle.safepoints.specs.Safepoint.{looking, spillToNext, atSafepoint, atFirst};
 
@@ -134,6 +135,17 @@ fn at_first_safepoint(
     )
 }
 
+// Record k looks at its safepoints.
+pub fn looks_at(intervals: &[u32], work: &[u32], cap: usize, counts: Counts, k: usize) -> bool
+    requires { ⌜ Ready cap (now work) counts ⌝ }
+    requires { ⌜ k < counts .records ⌝ }
+    requires { ⌜ counts .intervals ≡ intervalCount (now intervals) ⌝ }
+    ensures { λ r. ⌜ r ≡ looking (now (intervals .entry)) (piece (stateOf cap (now (work .entry)) counts) k) ⌝ }
+{
+    let q = state::piece(work, cap, counts, k);
+    looks(intervals, q)
+}
+
 // A reference piece in a register looks at its first safepoint; any other stays as it is.
 pub fn maybe_handle_safepoints(
     strategy: Strategy,
@@ -148,8 +160,7 @@ pub fn maybe_handle_safepoints(
     requires { ⌜ HeldOf cap (now intervals) (now mentions) (now safepoints) (now work) counts k ⌝ }
     ensures { λ r. ⌜ Does cap (now (mentions .entry)) (now (safepoints .entry)) (now (work .entry)) (now (work .exit)) counts r (handleSafepoints (cutting strategy (now (intervals .entry)) (now (mentions .entry)) (now (safepoints .entry)) cap) (stateOf cap (now (work .entry)) counts) k) ⌝ }
 {
-    let q = state::piece(work, cap, counts, k);
-    if looks(intervals, q) {
+    if looks_at(intervals, work, cap, counts, k) {
         return at_first_safepoint(
             strategy,
             intervals,

@@ -5,11 +5,8 @@ use Rattle.safepoints.proofs.SafepointLaws.{looked, passed}
 use Rattle.safepoints.proofs.maybe_handle_safepoints.Statement.{statement}
 use Rattle.safepoints.proofs.maybe_handle_safepoints.Tie as tie
 
-piece-requires : tie.Need-piece-requires
-piece-requires c κs = search needs
-
-looks-requires : tie.Need-looks-requires
-looks-requires c κs = search needs
+looks-at-requires : tie.Need-looks-at-requires
+looks-at-requires c κs = (search needs, (search needs, search needs))
 
 at-first-safepoint-requires : tie.Need-at-first-safepoint-requires
 at-first-safepoint-requires c κs = search needs
@@ -30,8 +27,7 @@ pub maybe-handle-safepoints-spec : {M : Type 1} → statement M
 maybe-handle-safepoints-spec =
     tie.close
     (tie.spec
-    piece-requires
-    looks-requires
+    looks-at-requires
     at-first-safepoint-requires
     same-length
     returns

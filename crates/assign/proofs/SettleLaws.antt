@@ -2,7 +2,7 @@
 -- Assumes nothing.
 use Prim.Native.Nat.{ℕ, _+_, _≤_, _<_}
 use mathlib.Core.Path.{_≡_, refl, sym, ap, _∙_}
-use mathlib.Core.Bool.{Bool, false}
+use mathlib.Core.Bool.{Bool, true, false, not}
 use mathlib.Core.List.{List, []}
 use native.Mathlib.Omega.{arith}
 use lib.ListN.{length}
@@ -32,7 +32,7 @@ use Rattle.steps.specs.declared.Tried.the-variants as tried
 use Rattle.steps.specs.Stepping.{stepping, Parting, Stepping, Tries, Stays, Ended, ended, refused, Did}
 use Rattle.steps.proofs.TakingLaws.{ended-from}
 use Rattle.assign.specs.declared.Front.{Front}
-use Rattle.assign.specs.Looping.{Takes, Finishing, Finished, Read, Settling, settled, contended}
+use Rattle.assign.specs.Looping.{Takes, Looking, Past, Finishing, Finished, Read, Settling, settled, contended}
 
 -- a turn that goes on stays ready
 pub did-stays : (cap : ℕ) (ms ss ws ws′ : List ℕ) (c e : Counts) (r : Turn) (o : Outcome) → Did cap ms ss ws ws′ c r o → r ≡ On e → Stays cap ms ss ws′ c e
@@ -47,18 +47,30 @@ pub take-tries : (cap : ℕ) (m : Mode) (ms ss ws ws′ : List ℕ) (c : Counts)
 take-tries cap m ms ss ws ws′ c k x y t h e = rw e at h
 
 -- ---- step 5 by itself
-module _ (cap : ℕ) (is ms ss ws : List ℕ) (k : ℕ) (x : Turn) (c : Counts) (h : Finishing cap is ms ss ws k x) (q : x ≡ On c) where
-  pub finish-held : HeldOf cap is ms ss ws c k
-  finish-held = h .held c q
+pub finish-held : (cap : ℕ) (is ms ss ws : List ℕ) (k : ℕ) (x : Turn) (c : Counts) → Finishing cap is ms ss ws k x → x ≡ On c → HeldOf cap is ms ss ws c k
+finish-held cap is ms ss ws k x c h q = h .held c q
 
-  pub finish-ready : Ready cap ws c
-  finish-ready = h .held c q .ready
+-- whether anything is left to do
+module _ (cap : ℕ) (is ws : List ℕ) (k : ℕ) (x : Turn) where
+  module _ (c : Counts) (h : Looking cap is ws k x) (q : x ≡ On c) where
+    pub look-ready : Ready cap ws c
+    look-ready = h .ready c q
 
-  pub finish-inside : k < c .records
-  finish-inside = h .held c q .inside
+    pub look-inside : k < c .records
+    look-inside = h .inside c q
 
-  pub finish-rows : c .intervals ≡ intervalCount is
-  finish-rows = h .held c q .rows
+    pub look-rows : c .intervals ≡ intervalCount is
+    look-rows = h .rows c q
+
+  pub past-on : (c : Counts) (b : Bool) → x ≡ On c → b ≡ looking is (piece (stateOf cap ws c) k) → Past cap is ws k x (not b)
+  past-on c b q e = record { past = λ t d i. let same : c ≡ d = cc in rw (← same, ← e) (turned b t) }
+    where
+      turned : (y : Bool) → not y ≡ true → y ≡ false
+      turned true r = sym r
+      turned false r = refl
+
+  pub past-off : (a : Answer) → x ≡ Off a → Past cap is ws k x true
+  past-off a q = record { past = λ t c i. absurd (let y : _≡_ {A = ℕ} 0 1 = cc in omega arith) }
 
 module _ (cap : ℕ) (z : Strategy) (is ms ss ws ws′ : List ℕ) (k : ℕ) (x : Turn) where
   pub finish-on : (c : Counts) (r : Turn) → x ≡ On c → Does cap ms ss ws ws′ c r (handleSafepoints (cutting z is ms ss cap) (stateOf cap ws c) k) → Finished cap z is ms ss ws ws′ k x r
@@ -69,10 +81,6 @@ module _ (cap : ℕ) (z : Strategy) (is ms ss ws ws′ : List ℕ) (k : ℕ) (x 
         kept = λ a i. absurd (let y : _≡_ {A = ℕ} 0 1 = cc in omega arith);
       }
 
-pub finish-past : (cap : ℕ) (z : Strategy) (is ms ss ws : List ℕ) (k : ℕ) (x : Turn) (c : Counts) (b : Bool) → Finishing cap is ms ss ws k x → x ≡ On c
-    → b ≡ looking is (piece (stateOf cap ws c) k) → b ≡ false → Finished cap z is ms ss ws ws k x (On c)
-finish-past cap z is ms ss ws k x c b h q e t = finish-on cap z is ms ss ws ws k x c (On c) q (passed cap is ms ss ws c k z b e (h .held c q) t)
-
 pub finish-off : (cap : ℕ) (z : Strategy) (is ms ss ws : List ℕ) (k : ℕ) (x : Turn) (a : Answer) → x ≡ Off a → Finished cap z is ms ss ws ws k x (Off a)
 finish-off cap z is ms ss ws k x a q =
     record {
@@ -80,6 +88,20 @@ finish-off cap z is ms ss ws k x a q =
       off = λ b i. let same : a ≡ b = cc in rw same;
       kept = λ b i. refl;
     }
+
+-- nothing was left to do
+pub finish-past : (cap : ℕ) (z : Strategy) (is ms ss ws : List ℕ) (k : ℕ) (x : Turn) (b : Bool) → Finishing cap is ms ss ws k x → Past cap is ws k x b → b ≡ true → Finished cap z is ms ss ws ws k x x
+finish-past cap z is ms ss ws k x b h p t = go x refl
+  where
+    go : (y : Turn) → x ≡ y → Finished cap z is ms ss ws ws k x x
+    go (On c) q =
+        let e : looking is (piece (stateOf cap ws c) k) ≡ false = p .past t c q in
+        rw q (rw q at (finish-on cap z is ms ss ws ws k x c (On c) q (passed cap is ms ss ws c k z _ refl (h .held c q) e)))
+    go (Off a) q = rw q (rw q at (finish-off cap z is ms ss ws k x a q))
+
+pub held-looking : (cap : ℕ) (is ms ss ws : List ℕ) (k : ℕ) (x : Turn) → Finishing cap is ms ss ws k x → Looking cap is ws k x
+held-looking cap is ms ss ws k x h =
+    record { ready = λ c q. h .held c q .ready; inside = λ c q. h .held c q .inside; rows = λ c q. h .held c q .rows }
 
 -- ---- after steps 2 to 4, which did x, step 5 did r
 module _ (cap n : ℕ) (m : Mode) (cs rs fs is ms ss ws ws₁ ws₂ : List ℕ) (c : Counts) (k : ℕ) (x r : Turn) (o : Outcome) (d : Did cap ms ss ws ws₁ c x o) (b : Finished cap (m .strategy) is ms ss ws₁ ws₂ k x r) where
@@ -140,6 +162,9 @@ module _ (cap : ℕ) (m : Mode) (is ms ss ws ws₁ : List ℕ) (f : Front) (row 
   pub took-held : (z : Turn) → Takes cap is ms ss ws f → t ≡ Taken z → Finishing cap is ms ss ws₁ (f .record) z
   took-held z p q = went-held cap is ms ss ws ws₁ (f .counts) (f .record) z _ (p .popping .inside) (p .popping .rows) (y .taken 0 [] [] [] is z q)
 
+  pub took-looking : (z : Turn) → Takes cap is ms ss ws f → t ≡ Taken z → Looking cap is ws₁ (f .record) z
+  took-looking z p q = held-looking cap is ms ss ws₁ (f .record) z (took-held z p q)
+
   pub settle-taken : (ws₂ : List ℕ) (z r : Turn) → t ≡ Taken z → Finished cap (m .strategy) is ms ss ws₁ ws₂ (f .record) z r → Settling cap m is ms ss ws ws₂ f row (Taken r)
   settle-taken ws₂ z r q b =
       record {
@@ -149,6 +174,10 @@ module _ (cap : ℕ) (m : Mode) (is ms ss ws ws₁ : List ℕ) (f : Front) (row 
         blocked = λ n cs rs fs h i. absurd (let e : _≡_ {A = ℕ} 0 1 = cc in omega arith);
         kept = λ i. absurd (let e : _≡_ {A = ℕ} 0 1 = cc in omega arith);
       }
+
+  -- nothing is left for step 5
+  pub settle-past : (z : Turn) (b : Bool) → Takes cap is ms ss ws f → t ≡ Taken z → Past cap is ws₁ (f .record) z b → b ≡ true → Settling cap m is ms ss ws ws₁ f row (Taken z)
+  settle-past z b p q w e = settle-taken ws₁ z z q (finish-past cap (m .strategy) is ms ss ws₁ (f .record) z b (took-held z p q) w e)
 
   pub settle-none : t ≡ tried.Blocked → Settling cap m is ms ss ws ws₁ f row tried.Blocked
   settle-none q =

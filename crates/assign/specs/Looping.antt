@@ -1,6 +1,7 @@
 -- Facts for contracts: the head of the main loop, and the record that a turn of it pops, with step 1 of document 01 done.
 use Prim.Native.Nat.{ℕ, _+_, _≤_, _<_}
 use mathlib.Core.Path.{_≡_}
+use mathlib.Core.Bool.{Bool, true, false}
 use mathlib.Core.List.{List, _∷_}
 use lib.ListN.{length}
 use Rattle.words.specs.Packed.{classAt, intervalAt, intervalCount}
@@ -19,6 +20,7 @@ use Rattle.choice.specs.Holding.{FreeRow}
 use Rattle.split.specs.declared.Turn.{Turn}
 use Rattle.split.specs.declared.Turn.the-variants.{On, Off}
 use Rattle.split.specs.Turns.{cutting, HeldOf, Does}
+use Rattle.safepoints.specs.Safepoint.{looking}
 use Rattle.steps.specs.declared.Tried.{Tried}
 use Rattle.steps.specs.declared.Tried.the-variants.{Taken, Blocked}
 use Rattle.steps.specs.Stepping.{classFor, stepping, Popping, Did}
@@ -85,6 +87,16 @@ pub record Faces (cap : ℕ) (rs fs ws : List ℕ) (f : Front) (t : Tracker) : T
 pub record Takes (cap : ℕ) (is ms ss ws : List ℕ) (f : Front) : Type 0 where
   pub popping : Popping cap is ms ss ws (f .counts) (f .record)
   pub registers : f .class .first + f .class .count ≤ 64
+
+-- record k lies in the area, where steps 2 to 4 went on
+pub record Looking (cap : ℕ) (is ws : List ℕ) (k : ℕ) (x : Turn) : Type 0 where
+  pub ready : (c : Counts) → x ≡ On c → Ready cap ws c
+  pub inside : (c : Counts) → x ≡ On c → k < c .records
+  pub rows : (c : Counts) → x ≡ On c → c .intervals ≡ intervalCount is
+
+-- it does not look at safepoints, if the answer is yes
+pub record Past (cap : ℕ) (is ws : List ℕ) (k : ℕ) (x : Turn) (b : Bool) : Type 0 where
+  pub past : b ≡ true → (c : Counts) → x ≡ On c → looking is (piece (stateOf cap ws c) k) ≡ false
 
 -- record k can be looked at for its safepoints, where steps 2 to 4 went on
 pub record Finishing (cap : ℕ) (is ms ss ws : List ℕ) (k : ℕ) (x : Turn) : Type 0 where

@@ -15,7 +15,7 @@ ghost use Rattle.rules.specs.Steps.{furthest};
 ghost use Rattle.choice.specs.Row.{posIn};
 ghost use Rattle.store.specs.StateOf.{stateOf};
 ghost use Rattle.steps.specs.Stepping.{stepping, Parting, Stepping, Tries, Did};
-ghost use Rattle.assign.specs.Looping.{Takes, Finishing, Finished, Settling, contended};
+ghost use Rattle.assign.specs.Looping.{Takes, Looking, Past, Finishing, Finished, Settling, contended};
 
 // The furthest register of the row is tried.
 fn take(
@@ -66,23 +66,28 @@ fn finish(
     ensures { λ r. ⌜ Finished cap strategy (now (intervals .entry)) (now (mentions .entry)) (now (safepoints .entry)) (now (work .entry)) (now (work .exit)) k taken r ⌝ }
 {
     match taken {
-        Turn::On(after) => {
-            // asked here, so that most pops go on without a call
-            if safepoints::looks_at(intervals, work, cap, after, k) {
-                return safepoints::maybe_handle_safepoints(
-                    strategy,
-                    intervals,
-                    mentions,
-                    safepoints,
-                    work,
-                    cap,
-                    after,
-                    k,
-                );
-            }
-            Turn::On(after)
-        }
+        Turn::On(after) => safepoints::maybe_handle_safepoints(
+            strategy,
+            intervals,
+            mentions,
+            safepoints,
+            work,
+            cap,
+            after,
+            k,
+        ),
         Turn::Off(answer) => Turn::Off(answer),
+    }
+}
+
+// Nothing is left for step 5 to do.
+fn past(intervals: &[u32], work: &[u32], cap: usize, k: usize, taken: Turn) -> bool
+    requires { ⌜ Looking cap (now intervals) (now work) k taken ⌝ }
+    ensures { λ b. ⌜ Past cap (now (intervals .entry)) (now (work .entry)) k taken b ⌝ }
+{
+    match taken {
+        Turn::On(after) => !safepoints::looks_at(intervals, work, cap, after, k),
+        Turn::Off(_) => true,
     }
 }
 
@@ -104,8 +109,12 @@ pub(crate) fn settle(
     let Tried::Taken(taken) = tried else {
         return Tried::Blocked;
     };
-    let strategy = mode.strategy;
     let k = f.record;
+    // asked here, so that most pops go on without a call
+    if past(intervals, work, cap, k, taken) {
+        return Tried::Taken(taken);
+    }
+    let strategy = mode.strategy;
     Tried::Taken(finish(
         strategy,
         intervals,

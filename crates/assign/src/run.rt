@@ -36,11 +36,10 @@ pub(crate) fn run(
         }
         let f = fronts::front(classes, intervals, work, cap, c);
         t = fronts::track(registers, fragments, t, f);
-        let index = f.index;
-        free[index] = fronts::free_row(free[index], registers, fragments, work, cap, f, t);
-        let row = free[index];
-        let settled = settling::settle(mode, intervals, mentions, safepoints, work, cap, f, row);
-        if let Tried::Taken(done) = settled {
+        let i = f.index;
+        free[i] = fronts::free_row(free[i], registers, fragments, work, cap, f, t);
+        let tried = settling::settle(mode, intervals, mentions, safepoints, work, cap, f, free[i]);
+        if let Tried::Taken(done) = tried {
             match done {
                 Turn::On(next) => c = next,
                 Turn::Off(answer) => return Turn::Off(answer),

@@ -54,11 +54,11 @@ mul-free c = search needs
 array-set-from-free : tie.Need-array-set-from-free Inv-loop μ-loop
 array-set-from-free c = search needs
 
-mul-row : tie.Need-mul-row Inv-loop μ-loop
-mul-row c = search needs
+mul-settle : tie.Need-mul-settle Inv-loop μ-loop
+mul-settle c = search needs
 
-array-copy-out-row : tie.Need-array-copy-out-row Inv-loop μ-loop
-array-copy-out-row c = search needs
+array-copy-out-settle : tie.Need-array-copy-out-settle Inv-loop μ-loop
+array-copy-out-settle c = search needs
 
 settle-requires : tie.Need-settle-requires Inv-loop μ-loop
 settle-requires c κs =
@@ -66,8 +66,8 @@ settle-requires c κs =
     let at-loop : tie.At-loop Inv-loop μ-loop = search needs in
     going-takes _ _ _ _ _ _ _ _ _ _ _ _ _ _ _ (at-loop .loop .inv) _ _ (after-front .front .ensures)
 
-enum-known-settled : tie.Need-enum-known-settled Inv-loop μ-loop
-enum-known-settled c = search needs
+enum-known-tried : tie.Need-enum-known-tried Inv-loop μ-loop
+enum-known-tried c = search needs
 
 enum-known-done : tie.Need-enum-known-done Inv-loop μ-loop
 enum-known-done c = search needs
@@ -77,26 +77,26 @@ enum-known-done-2 c = search needs
 
 same-length-2 : tie.Need-same-length-2 Inv-loop μ-loop
 same-length-2 c =
-    let after-settled : tie.After-settled Inv-loop μ-loop = search needs in
+    let after-tried : tie.After-tried Inv-loop μ-loop = search needs in
     let after-settle : tie.After-settle Inv-loop μ-loop = search needs in
     let after-free-row : tie.After-free-row Inv-loop μ-loop = search needs in
     let after-track : tie.After-track Inv-loop μ-loop = search needs in
     let after-front : tie.After-front Inv-loop μ-loop = search needs in
     let at-loop : tie.At-loop Inv-loop μ-loop = search needs in
-    let d = did-settle _ _ _ _ _ _ _ _ _ _ _ _ _ _ _ (at-loop .loop .inv) _ _ (after-front .front .ensures) _ (after-free-row .free-row .ensures) _ _ (after-settle .settle .ensures) _ (after-settled .settled .given .1) in
+    let d = did-settle _ _ _ _ _ _ _ _ _ _ _ _ _ _ _ (at-loop .loop .inv) _ _ (after-front .front .ensures) _ (after-free-row .free-row .ensures) _ _ (after-settle .settle .ensures) _ (after-tried .tried .given .1) in
     search needs
 
 returns-2 : tie.Need-returns-2 Inv-loop μ-loop
 returns-2 c =
     let after-done2 : tie.After-done2 Inv-loop μ-loop = search needs in
-    let after-settled : tie.After-settled Inv-loop μ-loop = search needs in
+    let after-tried : tie.After-tried Inv-loop μ-loop = search needs in
     let after-settle : tie.After-settle Inv-loop μ-loop = search needs in
     let after-free-row : tie.After-free-row Inv-loop μ-loop = search needs in
     let after-track : tie.After-track Inv-loop μ-loop = search needs in
     let after-front : tie.After-front Inv-loop μ-loop = search needs in
     let in-loop : tie.In-loop Inv-loop μ-loop = search needs in
     let at-loop : tie.At-loop Inv-loop μ-loop = search needs in
-    let d = did-settle _ _ _ _ _ _ _ _ _ _ _ _ _ _ _ (at-loop .loop .inv) _ _ (after-front .front .ensures) _ (after-free-row .free-row .ensures) _ _ (after-settle .settle .ensures) _ (after-settled .settled .given .1) in
+    let d = did-settle _ _ _ _ _ _ _ _ _ _ _ _ _ _ _ (at-loop .loop .inv) _ _ (after-front .front .ensures) _ (after-free-row .free-row .ensures) _ _ (after-settle .settle .ensures) _ (after-tried .tried .given .1) in
     search going-off
 
 loop-less : tie.Need-loop-less Inv-loop μ-loop
@@ -110,14 +110,14 @@ loop-less c =
 loop-again : tie.Need-loop-again Inv-loop μ-loop
 loop-again c =
     let after-done : tie.After-done Inv-loop μ-loop = search needs in
-    let after-settled : tie.After-settled Inv-loop μ-loop = search needs in
+    let after-tried : tie.After-tried Inv-loop μ-loop = search needs in
     let after-settle : tie.After-settle Inv-loop μ-loop = search needs in
     let after-free-row : tie.After-free-row Inv-loop μ-loop = search needs in
     let after-track : tie.After-track Inv-loop μ-loop = search needs in
     let after-front : tie.After-front Inv-loop μ-loop = search needs in
     let in-loop : tie.In-loop Inv-loop μ-loop = search needs in
     let at-loop : tie.At-loop Inv-loop μ-loop = search needs in
-    let d = did-settle _ _ _ _ _ _ _ _ _ _ _ _ _ _ _ (at-loop .loop .inv) _ _ (after-front .front .ensures) _ (after-free-row .free-row .ensures) _ _ (after-settle .settle .ensures) _ (after-settled .settled .given .1) in
+    let d = did-settle _ _ _ _ _ _ _ _ _ _ _ _ _ _ _ (at-loop .loop .inv) _ _ (after-front .front .ensures) _ (after-free-row .free-row .ensures) _ _ (after-settle .settle .ensures) _ (after-tried .tried .given .1) in
     search going-on
 
 enum-told : tie.Need-enum-told Inv-loop μ-loop
@@ -213,10 +213,10 @@ run-spec =
     free-row-requires
     mul-free
     array-set-from-free
-    mul-row
-    array-copy-out-row
+    mul-settle
+    array-copy-out-settle
     settle-requires
-    enum-known-settled
+    enum-known-tried
     enum-known-done
     enum-known-done-2
     same-length-2

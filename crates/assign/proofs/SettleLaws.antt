@@ -30,6 +30,7 @@ use Rattle.steps.specs.declared.Tried.{Tried}
 use Rattle.steps.specs.declared.Tried.the-variants.{Taken}
 use Rattle.steps.specs.declared.Tried.the-variants as tried
 use Rattle.steps.specs.Stepping.{stepping, Parting, Stepping, Tries, Stays, Ended, ended, refused, Did}
+use Rattle.steps.proofs.AllocateLaws.{taken-only}
 use Rattle.steps.proofs.TakingLaws.{ended-from}
 use Rattle.assign.specs.declared.Front.{Front}
 use Rattle.assign.specs.Looping.{Takes, Looking, Past, Finishing, Finished, Read, Settling, settled, contended}
@@ -144,9 +145,6 @@ went-held cap is ms ss ws ws₁ c k x o i h d =
     }
 
 -- ---- what was tried is what the rules do, or step 4 is due
-taken-only : {z z′ : Turn} → Taken z ≡ Taken z′ → z ≡ z′
-taken-only e = cc
-
 module _ (cap : ℕ) (m : Mode) (is ms ss ws ws₁ : List ℕ) (f : Front) (row : List Pos) (t : Tried)
     (y : Tries cap m ms ss ws ws₁ (f .counts) (f .record) (furthest (posIn row) (f .class .scratch) (f .class .first) (f .class .count) AllBlocked) t) where
   chosen : (n : ℕ) (cs rs fs : List ℕ) → Read cap cs rs fs is ws f row

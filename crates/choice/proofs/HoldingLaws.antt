@@ -228,48 +228,46 @@ pub seat-bit : (place : Place) (seat : Seat) (r : ℕ) → seat ≡ seatOf 0 64 
 seat-bit place seat r e f = sits 0 64 place r (sym f ∙ e) .high
 
 -- ---- free-until: a held register is blocked, the others are as their fragments say
--- the registers before r are filled
-pub record Opening (rs fs : List ℕ) (first count S end m : ℕ) (b : List Pos) (r : ℕ) : Type 0 where
-  pub is : (k : ℕ) → first ≤ k → k < r → posIn b k ≡ choose (hasBit m k) Blocked (fixedPos S end (part (registerAt rs k) fs))
+-- the registers before r are filled: P says what each would be if it were not held
+pub record Filled (P : ℕ → Pos) (first count m : ℕ) (b : List Pos) (r : ℕ) : Type 0 where
+  pub is : (k : ℕ) → first ≤ k → k < r → posIn b k ≡ choose (hasBit m k) Blocked (P k)
   pub long : length b ≡ 64
   pub low : first ≤ r
   pub upto : r ≤ first + count
 
-pub opening-starts : (rs fs : List ℕ) (first count S end m : ℕ) (b : List Pos) → length b ≡ 64 → Opening rs fs first count S end m b first
-opening-starts rs fs first count S end m b n = record { is = λ k a l. absurd (omega arith); long = n; low = omega arith; upto = omega arith }
+pub filled-starts : (P : ℕ → Pos) (first count m : ℕ) (b : List Pos) → length b ≡ 64 → Filled P first count m b first
+filled-starts P first count m b n = record { is = λ k a l. absurd (omega arith); long = n; low = omega arith; upto = omega arith }
 
-module _ {rs fs : List ℕ} {first count S end m : ℕ} {b : List Pos} {r : ℕ} (g : Opening rs fs first count S end m b r) where
-  pub opening-more : {t : Tracker} (range : Range) (p v : Pos) (taken : Bool) → Facing rs fs S first count t → range ≡ rangeIn (getD rs r 0) → p ≡ fixedPos S end (part range fs)
-      → taken ≡ hasBit m r → v ≡ choose taken Blocked p → r < first + count → Opening rs fs first count S end m (set b r v) (r + 1)
-  opening-more range p v taken y e f w u h =
+module _ {P : ℕ → Pos} {first count m : ℕ} {b : List Pos} {r : ℕ} (g : Filled P first count m b r) where
+  pub filled-more : (v : Pos) (taken : Bool) → taken ≡ hasBit m r → v ≡ choose taken Blocked (P r) → r < first + count → first + count ≤ 64 → Filled P first count m (set b r v) (r + 1)
+  filled-more v taken w u h i =
       record { is = λ k a l. at k a l (ℕ-discrete r k); long = simp length-set (g .long); low = omega (arith, g .low); upto = omega arith }
     where
-      at : (k : ℕ) → first ≤ k → k < r + 1 → Dec (r ≡ k) → posIn (set b r v) k ≡ choose (hasBit m k) Blocked (fixedPos S end (part (registerAt rs k) fs))
-      at k a l (yes q) = rw (sym q) (getD-set-same b r v Blocked (omega (arith, g .long, y .inside, y .fixed .few)) ∙ u ∙ rw (w, f, e) refl)
-      at k a l (no d) = getD-set-other b r k v Blocked (λ q. d (sym q)) ∙ g .is k a (omega arith)
-
-  pub opening-ends : first + count ≤ r → OpenRow rs fs first count S end m b
-  opening-ends h = record { is = λ k a l. g .is k a (omega arith) }
-
--- the same, where none has a fragment ahead: the registers before r are filled
-pub record Unfixing (first count m : ℕ) (b : List Pos) (r : ℕ) : Type 0 where
-  pub is : (k : ℕ) → first ≤ k → k < r → posIn b k ≡ choose (hasBit m k) Blocked Never
-  pub long : length b ≡ 64
-  pub upto : r ≤ first + count
-
-pub unfixing-starts : (first count m : ℕ) (b : List Pos) → length b ≡ 64 → Unfixing first count m b first
-unfixing-starts first count m b n = record { is = λ k a l. absurd (omega arith); long = n; upto = omega arith }
-
-module _ {first count m : ℕ} {b : List Pos} {r : ℕ} (g : Unfixing first count m b r) where
-  pub unfixing-more : (v : Pos) (taken : Bool) → taken ≡ hasBit m r → v ≡ choose taken Blocked Never → r < first + count → first + count ≤ 64 → Unfixing first count m (set b r v) (r + 1)
-  unfixing-more v taken w u h i = record { is = λ k a l. at k a l (ℕ-discrete r k); long = simp length-set (g .long); upto = omega arith }
-    where
-      at : (k : ℕ) → first ≤ k → k < r + 1 → Dec (r ≡ k) → posIn (set b r v) k ≡ choose (hasBit m k) Blocked Never
+      at : (k : ℕ) → first ≤ k → k < r + 1 → Dec (r ≡ k) → posIn (set b r v) k ≡ choose (hasBit m k) Blocked (P k)
       at k a l (yes q) = rw (sym q) (getD-set-same b r v Blocked (omega (arith, g .long)) ∙ u ∙ rw w refl)
       at k a l (no d) = getD-set-other b r k v Blocked (λ q. d (sym q)) ∙ g .is k a (omega arith)
 
-  pub unfixing-ends : first + count ≤ r → UnfixedRow first count m b
-  unfixing-ends h = record { is = λ k a l. g .is k a (omega arith) }
+  filled-ends : first + count ≤ r → (k : ℕ) → first ≤ k → k < first + count → posIn b k ≡ choose (hasBit m k) Blocked (P k)
+  filled-ends h k a l = g .is k a (omega arith)
+
+-- as their fragments say
+abbrev pub fixedAt : List ℕ → List ℕ → ℕ → ℕ → ℕ → Pos
+fixedAt rs fs S end k = fixedPos S end (part (registerAt rs k) fs)
+
+module _ (rs fs : List ℕ) (first count S end m : ℕ) (b : List Pos) (r : ℕ) (g : Filled (fixedAt rs fs S end) first count m b r) where
+  pub opening-more : {t : Tracker} (range : Range) (p v : Pos) (taken : Bool) → Facing rs fs S first count t → range ≡ rangeIn (getD rs r 0) → p ≡ fixedPos S end (part range fs)
+      → taken ≡ hasBit m r → v ≡ choose taken Blocked p → r < first + count → Filled (fixedAt rs fs S end) first count m (set b r v) (r + 1)
+  opening-more range p v taken y e f w u h = filled-more g v taken w (u ∙ rw (f, e) refl) h (omega (arith, y .inside, y .fixed .few))
+
+  pub opening-ends : first + count ≤ r → OpenRow rs fs first count S end m b
+  opening-ends h = record { is = filled-ends g h }
+
+-- or free for ever, where none has a fragment ahead
+abbrev pub neverAt : ℕ → Pos
+neverAt k = Never
+
+pub unfixing-ends : {first count m : ℕ} {b : List Pos} {r : ℕ} → Filled neverAt first count m b r → first + count ≤ r → UnfixedRow first count m b
+unfixing-ends g h = record { is = filled-ends g h }
 
 -- a register with no fragment ahead is free for ever, as far as its fragments go
 unfixed : {rs fs : List ℕ} {S first count : ℕ} {t : Tracker} (end : ℕ) → Facing rs fs S first count t → NoneSet (t .ahead) first count true → (r : ℕ) → first ≤ r → r < first + count

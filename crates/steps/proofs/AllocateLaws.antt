@@ -158,7 +158,7 @@ by-grant n m cs rs fs is ms ss cap s k (Take r (At a)) =
 by-grant n m cs rs fs is ms ss cap s k (Take r Never) = refl
 
 -- ---- what was tried
-taken-only : {z z′ : Turn} → Taken z ≡ Taken z′ → z ≡ z′
+pub taken-only : {z z′ : Turn} → Taken z ≡ Taken z′ → z ≡ z′
 taken-only e = cc
 
 module _ (cap : ℕ) (m : Mode) (ms ss ws : List ℕ) (c : Counts) (k : ℕ) (x : Choice) (gr : Grant) (e : gr ≡ grantOf m ms (piece (stateOf cap ws c) k) x) where

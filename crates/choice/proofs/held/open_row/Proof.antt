@@ -3,12 +3,12 @@
 use borrow.Author.Needs.{needs}
 use Prim.Native.Nat.{_+_, _-_}
 use Rattle.activity.proofs.CursorLaws.{facing-faced}
-use Rattle.choice.proofs.HoldingLaws.{Opening, opening-starts, opening-more, opening-ends}
+use Rattle.choice.proofs.HoldingLaws.{Filled, fixedAt, filled-starts, opening-more, opening-ends}
 use Rattle.choice.proofs.held.open_row.Statement.{statement}
 use Rattle.choice.proofs.held.open_row.Tie as tie
 
 abbrev Inv-loop : tie.InvT-loop
-Inv-loop held registers fragments first count start end t b₀ stop r₀ b r = Opening registers fragments first count start end held b r
+Inv-loop held registers fragments first count start end t b₀ stop r₀ b r = Filled (fixedAt registers fragments start end) first count held b r
 
 abbrev μ-loop : tie.MeasureT-loop
 μ-loop held registers fragments first count start end t b₀ stop r₀ b r = first + count - r
@@ -17,7 +17,7 @@ add-stop : tie.Need-add-stop Inv-loop μ-loop
 add-stop c = search needs
 
 loop-holds : tie.Need-loop-holds Inv-loop μ-loop
-loop-holds c = search opening-starts
+loop-holds c = search filled-starts
 
 mul-range-in : tie.Need-mul-range-in Inv-loop μ-loop
 mul-range-in c = search needs

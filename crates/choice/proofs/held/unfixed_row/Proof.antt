@@ -2,12 +2,12 @@
 -- Assumes nothing.
 use borrow.Author.Needs.{needs}
 use Prim.Native.Nat.{_+_, _-_}
-use Rattle.choice.proofs.HoldingLaws.{Unfixing, unfixing-starts, unfixing-more, unfixing-ends}
+use Rattle.choice.proofs.HoldingLaws.{Filled, neverAt, filled-starts, filled-more, unfixing-ends}
 use Rattle.choice.proofs.held.unfixed_row.Statement.{statement}
 use Rattle.choice.proofs.held.unfixed_row.Tie as tie
 
 abbrev Inv-loop : tie.InvT-loop
-Inv-loop held first count b₀ stop r₀ b r = Unfixing first count held b r
+Inv-loop held first count b₀ stop r₀ b r = Filled neverAt first count held b r
 
 abbrev μ-loop : tie.MeasureT-loop
 μ-loop held first count b₀ stop r₀ b r = first + count - r
@@ -16,7 +16,7 @@ add-stop : tie.Need-add-stop Inv-loop μ-loop
 add-stop c = search needs
 
 loop-holds : tie.Need-loop-holds Inv-loop μ-loop
-loop-holds c = search unfixing-starts
+loop-holds c = search filled-starts
 
 has-bit-requires : tie.Need-has-bit-requires Inv-loop μ-loop
 has-bit-requires c κs = search needs
@@ -37,7 +37,7 @@ loop-less : tie.Need-loop-less Inv-loop μ-loop
 loop-less c = search needs
 
 loop-again : tie.Need-loop-again Inv-loop μ-loop
-loop-again c = search unfixing-more
+loop-again c = search filled-more
 
 returns : tie.Need-returns Inv-loop μ-loop
 returns c = search unfixing-ends

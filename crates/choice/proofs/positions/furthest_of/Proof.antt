@@ -93,13 +93,14 @@ loop-less c = search needs
 
 loop-again : tie.Need-loop-again Inv-loop μ-loop
 loop-again c =
-    scanned-more _ _ _ _ _ _ _
-    (c .before .before .before .before .before .before .before .before .before .before .before .loop .inv)
-    (c .before .before .before .before .before .before .before .before .before .before .loop-test .taken) _ _ _
-    (c .before .before .before .before .before .before .before .before .before .nearer .ensures .0)
-    (c .before .before .before .before .before .before .before .before .nearer2 .ensures .0)
-    (c .before .before .before .before .before .before .before .nearer3 .ensures .0) _
-    (c .before .before .furthest-lent .ensures)
+    let after-furthest-lent : tie.After-furthest-lent Inv-loop μ-loop = search needs in
+    let after-nearer3 : tie.After-nearer3 Inv-loop μ-loop = search needs in
+    let after-nearer2 : tie.After-nearer2 Inv-loop μ-loop = search needs in
+    let after-nearer : tie.After-nearer Inv-loop μ-loop = search needs in
+    let in-loop : tie.In-loop Inv-loop μ-loop = search needs in
+    let at-loop : tie.At-loop Inv-loop μ-loop = search needs in
+    scanned-more _ _ _ _ _ _ _ (at-loop .loop .inv) (in-loop .loop-test .taken) _ _ _ (after-nearer .nearer .ensures .0) (after-nearer2 .nearer2 .ensures .0) (after-nearer3 .nearer3 .ensures .0) _
+    (after-furthest-lent .furthest-lent .ensures)
 
 returns-2 : tie.Need-returns-2 Inv-loop μ-loop
 returns-2 c = search scanned-ends

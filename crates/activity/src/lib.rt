@@ -1,4 +1,6 @@
 // The activity tracker: how many records are active, and for each register a cursor into its fragments, before which all end before the last start, and a bit, clear only where no fragment is ahead. Cursors only rise, so that of a register's fragments only the one at the cursor is ever looked at, and none where the class's bits are clear.
+#![tactic(auto)]
+
 use words::read;
 
 pub mod bits;
@@ -11,7 +13,7 @@ ghost use Rattle.activity.specs.Cursors.{Moved, Ready, advanced, fresh_of, left_
 // Limits: 64 registers.
 pub const REGISTERS: usize = 64;
 
-#[derive(Drop)]
+#[derive(Clone, Copy)]
 pub struct Tracker {
     pub active: u16,
     pub ahead: u64,

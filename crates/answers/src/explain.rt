@@ -10,14 +10,14 @@ const NOWHERE: u32 = 65535;
 // Up to here a number can take one more digit.
 const MOST_BEFORE: u32 = 429496728;
 
-#[derive(Drop)]
+#[derive(Clone, Copy)]
 enum Place {
     Nowhere,
     At(u32),
 }
 
 // What the place of an answer counts.
-#[derive(Drop)]
+#[derive(Clone, Copy)]
 enum Noun {
     Nothing,
     Class,
@@ -32,14 +32,14 @@ enum Noun {
 }
 
 // What a word spells.
-#[derive(Drop)]
+#[derive(Clone, Copy)]
 enum Number {
     Is(u32),
     Missing,
 }
 
 // Whether the words were numbers, so that a sentence was written.
-#[derive(Drop)]
+#[derive(Clone, Copy)]
 pub enum Said {
     Sentence,
     NotANumber,

@@ -5,7 +5,7 @@ ghost use Rattle.answers.specs.Lending.{Lends};
 use cases::Room;
 
 // So many words of the result area, and of the work area.
-#[derive(Drop)]
+#[derive(Clone, Copy)]
 pub(crate) struct Space {
     pub result: usize,
     pub work: usize,

@@ -1,4 +1,6 @@
 // A case answered: the assigner or the checker is asked, and a line says the answer, for a program or for a person. A case that cannot be read gets a line on standard error.
+#![tactic(auto)]
+
 
 pub mod answer;
 pub mod explain;
@@ -8,7 +10,7 @@ mod sink;
 pub mod trouble;
 
 // What is done with each case.
-#[derive(Drop)]
+#[derive(Clone, Copy)]
 pub enum Way {
     // Assign, and write the answer's words.
     Assign,

@@ -1,4 +1,6 @@
 // The assigner: the main loop of document 01, and the public call. Any words at all get an answer.
+#![tactic(auto)]
+
 use store::Counts;
 use words::Class;
 
@@ -9,7 +11,7 @@ mod run;
 mod settling;
 
 // A popped record, the interval that it is of, where it starts, and the counts after step 1.
-#[derive(Drop)]
+#[derive(Clone, Copy)]
 struct Start {
     record: usize,
     interval: usize,
@@ -18,7 +20,7 @@ struct Start {
 }
 
 // .. with its class, by number and as read.
-#[derive(Drop)]
+#[derive(Clone, Copy)]
 struct Front {
     record: usize,
     index: usize,

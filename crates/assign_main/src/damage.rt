@@ -146,7 +146,7 @@ fn break_last(words: &mut [u32], count: u32) {
 }
 
 // What is claimed of the words.
-#[derive(Drop)]
+#[derive(Clone, Copy)]
 struct Numbers {
     count: u32,
     total: u32,

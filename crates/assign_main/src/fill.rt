@@ -2,7 +2,7 @@
 use std::num;
 
 // Four words in a row, as those of an interval.
-#[derive(Drop)]
+#[derive(Clone, Copy)]
 pub(crate) struct Row(pub u32, pub u32, pub u32, pub u32);
 
 // The words moved up by one; the first one goes to the end, plus a step.

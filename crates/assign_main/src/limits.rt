@@ -14,7 +14,7 @@ const WORK_WORDS: usize = 131328;
 // "One": registers 0 and 1, scratch 1.
 const ONE: u32 = 0x28080;
 
-#[derive(Drop)]
+#[derive(Clone, Copy)]
 enum Then {
     Stop,
     Damage,

@@ -1,4 +1,6 @@
 // Runs of the proved calls for what no theorem says by itself: an answer of each number, the lent areas, the strategies, damaged results, the limits.
+#![tactic(auto)]
+
 mod calls;
 mod damage;
 mod fill;

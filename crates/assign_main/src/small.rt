@@ -22,7 +22,7 @@ const RESULT_WORDS: usize = 16;
 
 const WORK_WORDS: usize = 320;
 
-#[derive(Drop)]
+#[derive(Clone, Copy)]
 enum Went {
     On(Cursor),
     Over,

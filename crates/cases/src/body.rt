@@ -11,37 +11,37 @@ use crate::{Claim, Counts, Cursor, Key, Options, Room, What, keyed, lines, numbe
 // The claimed count and total.
 const CLAIM_NUMBERS: usize = 2;
 
-#[derive(Drop)]
+#[derive(Clone, Copy)]
 pub(crate) struct Head {
     pub options: Options,
     pub step: Step,
 }
 
-#[derive(Drop)]
+#[derive(Clone, Copy)]
 pub(crate) struct Counted {
     pub count: usize,
     pub step: Step,
 }
 
-#[derive(Drop)]
+#[derive(Clone, Copy)]
 pub(crate) struct Tables {
     pub counts: Counts,
     pub step: Step,
 }
 
-#[derive(Drop)]
+#[derive(Clone, Copy)]
 pub(crate) struct RoomLine {
     pub room: Room,
     pub step: Step,
 }
 
-#[derive(Drop)]
+#[derive(Clone, Copy)]
 pub(crate) struct ClaimLine {
     pub claim: Claim,
     pub step: Step,
 }
 
-#[derive(Drop)]
+#[derive(Clone, Copy)]
 pub(crate) struct Body {
     pub options: Options,
     pub counts: Counts,

@@ -5,7 +5,7 @@ ghost use Rattle.cases.specs.Bounds.{Found};
 use crate::{Cursor, Key, Span, scan};
 
 // The line that was due: what stands after its first word. Or another line.
-#[derive(Drop)]
+#[derive(Clone, Copy)]
 pub(crate) enum Due {
     Line { rest: Span, next: Cursor },
     Other,

@@ -10,6 +10,8 @@
 //     end
 //
 // The lines stand in this order. `#` starts a comment; lines with nothing on them are passed over.
+#![tactic(auto)]
+
 
 mod body;
 mod keyed;
@@ -20,21 +22,21 @@ mod scan;
 pub mod write;
 
 // Where a reader stands: at a byte, on a line. Lines are counted from 1.
-#[derive(Drop)]
+#[derive(Clone, Copy)]
 pub struct Cursor {
     pub at: usize,
     pub line: u32,
 }
 
 // The bytes from..to of the text.
-#[derive(Drop)]
+#[derive(Clone, Copy)]
 pub struct Span {
     pub from: usize,
     pub to: usize,
 }
 
 // The first words of a line.
-#[derive(Drop)]
+#[derive(Clone, Copy)]
 pub enum Key {
     Case,
     Opts,
@@ -51,7 +53,7 @@ pub enum Key {
 }
 
 // What is wrong with a line.
-#[derive(Drop)]
+#[derive(Clone, Copy)]
 pub enum What {
     // Another first word was due.
     Expected(Key),
@@ -70,7 +72,7 @@ pub enum What {
 }
 
 // How many words of each lent table the case has.
-#[derive(Drop)]
+#[derive(Clone, Copy)]
 pub struct Counts {
     pub classes: usize,
     pub registers: usize,
@@ -81,20 +83,20 @@ pub struct Counts {
 }
 
 // The room that a case asks for, in words.
-#[derive(Drop)]
+#[derive(Clone, Copy)]
 pub enum Room {
     Most,
     Words { result: u32, work: u32 },
 }
 
 // The claim of a case: so many words of the lent table, the claimed count and total first.
-#[derive(Drop)]
+#[derive(Clone, Copy)]
 pub enum Claim {
     Missing,
     Words(usize),
 }
 
-#[derive(Drop)]
+#[derive(Clone, Copy)]
 pub struct Options {
     pub strategy: u32,
     pub partial_split: bool,
@@ -102,7 +104,7 @@ pub struct Options {
     pub instructions: u32,
 }
 
-#[derive(Drop)]
+#[derive(Clone, Copy)]
 pub struct Case {
     pub name: Span,
     pub options: Options,
@@ -113,7 +115,7 @@ pub struct Case {
 }
 
 // A case that cannot be read. Its name is empty where not even that was read.
-#[derive(Drop)]
+#[derive(Clone, Copy)]
 pub struct Trouble {
     pub name: Span,
     pub line: u32,
@@ -121,7 +123,7 @@ pub struct Trouble {
     pub next: Cursor,
 }
 
-#[derive(Drop)]
+#[derive(Clone, Copy)]
 pub enum Read {
     Case(Case),
     Bad(Trouble),

@@ -7,25 +7,25 @@ use crate::numbers::Words;
 use crate::{Cursor, Key, Span, What, keyed, numbers, scan};
 
 // What is wrong, and where to look for the next case.
-#[derive(Drop)]
+#[derive(Clone, Copy)]
 pub(crate) struct Fault {
     pub what: What,
     pub from: Cursor,
 }
 
-#[derive(Drop)]
+#[derive(Clone, Copy)]
 pub(crate) enum Step {
     Next(Cursor),
     Bad(Fault),
 }
 
-#[derive(Drop)]
+#[derive(Clone, Copy)]
 pub(crate) enum Table {
     Read { count: usize, next: Cursor },
     Bad(Fault),
 }
 
-#[derive(Drop)]
+#[derive(Clone, Copy)]
 pub(crate) enum Title {
     Name { name: Span, next: Cursor },
     Bad(What),

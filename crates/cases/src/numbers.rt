@@ -14,27 +14,27 @@ const WORD_DIGITS: usize = 8;
 
 const DECIMAL_DIGITS: usize = 10;
 
-#[derive(Drop)]
+#[derive(Clone, Copy)]
 pub(crate) enum Base {
     Ten,
     Sixteen,
 }
 
 // What a byte stands for as a digit, up to base 16.
-#[derive(Drop)]
+#[derive(Clone, Copy)]
 pub(crate) enum Digit {
     Of(u64),
     Missing,
 }
 
-#[derive(Drop)]
+#[derive(Clone, Copy)]
 pub(crate) enum Number {
     Is(u32),
     Bad(What),
 }
 
 // How many words were read, or what was wrong with one.
-#[derive(Drop)]
+#[derive(Clone, Copy)]
 pub(crate) enum Words {
     Read(usize),
     Bad(What),

@@ -15,7 +15,7 @@ const NEWLINE: u8 = b'\n';
 const HASH: u8 = b'#';
 
 // What a search stops at.
-#[derive(Drop)]
+#[derive(Clone, Copy)]
 pub(crate) enum Stop {
     Blank,
     Word,
@@ -24,7 +24,7 @@ pub(crate) enum Stop {
 }
 
 // A line that says something: its text, its number, and where the next one starts. It is empty only at the end of the input.
-#[derive(Drop)]
+#[derive(Clone, Copy)]
 pub(crate) struct Line {
     pub text: Span,
     pub number: u32,

@@ -1,4 +1,6 @@
 // The placement checker: whether a claim obeys the seven placement rules, for any tables and any claim. It shares the reading of tables and the checks at entry with the assigner, and nothing else.
+#![tactic(auto)]
+
 ghost use Rattle.std.specs.Prelude.{◌≡◌, ℕ, ◌+◌, ◌*◌, ◌<◌, ◌≤◌, length};
 ghost use Rattle.rules.specs.Checker.{HoldBelow, Checks};
 ghost use Rattle.tables.specs.Given.{tables};
@@ -16,7 +18,7 @@ const RECORD_WORDS: usize = 2;
 const HEAD_ENTRIES: usize = 65544;
 
 // What the rules say: all hold, or this one is the first that does not.
-#[derive(Drop)]
+#[derive(Clone, Copy)]
 pub enum Verdict {
     Obeyed,
     Broken(u16),

@@ -1,6 +1,8 @@
 // Claims at the edges of each placement rule, for one set of tables: a line for each, with the answer and the lowest broken rule.
 //
 // The tables: 8 instructions; registers 0 and 1, scratch 1, fragment [8,9] on register 0; interval 0 is a reference of size 2, [0,7], def 0, safepoint 0; interval 1 is [4,15], use 5.
+#![tactic(auto)]
+
 use rules::Answer;
 
 fn digit(j: u16) -> u8 {

@@ -1,6 +1,8 @@
 // The seven placement rules, each tested on its own: a function says whether the rule holds of a claim, exactly. Near-linear in records and points, whatever the claim.
 //
 // Rules 1 and 4 walk all records in one order, by first point (`order`), each with a small array of what comes next. The others look at one record at a time, in tables that ascend.
+#![tactic(auto)]
+
 mod entries;
 mod order;
 pub mod rule1;
@@ -12,14 +14,14 @@ pub mod rule6;
 pub mod rule7;
 
 // Whose turn it is in the order: a record, or nobody's any more.
-#[derive(Drop)]
+#[derive(Clone, Copy)]
 pub enum Turn {
     Over,
     Of(usize),
 }
 
 // What the slot records come to: rule 6 broken, or the greatest slot plus size.
-#[derive(Drop)]
+#[derive(Clone, Copy)]
 pub enum Put {
     Broken,
     Top(u32),

@@ -1,4 +1,6 @@
 // The choice of a register: positions by register, as arrays by value, one row for each class, and the furthest of a row, looked for over a lent slice.
+#![tactic(auto)]
+
 use rules::Pos;
 
 pub mod held;
@@ -9,14 +11,14 @@ pub mod rows;
 pub const CLASSES: usize = 8;
 
 // The register of a place, if it is one of the class.
-#[derive(Drop)]
+#[derive(Clone, Copy)]
 pub enum Seat {
     Outside,
     Inside(usize),
 }
 
 // A register and its position.
-#[derive(Drop)]
+#[derive(Clone, Copy)]
 pub struct RegPos {
     pub reg: u16,
     pub pos: Pos,

@@ -1,4 +1,6 @@
 // Step 5 in the work area: a reference piece in a register looks at its first safepoint. `maybe_handle_safepoints` of the Rust module, over document 01's definitions.
+#![tactic(auto)]
+
 ghost use Rattle.std.specs.Prelude.{◌≡◌, ℕ, ◌<◌};
 ghost use Rattle.words.specs.Packed.{interval_at, interval_count};
 ghost use Rattle.rules.specs.declared.Strategy.TheVariants.{From};

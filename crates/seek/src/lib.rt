@@ -1,9 +1,11 @@
 // Binary search in a table whose words ascend: fragments, mentions and safepoints do, as plain words.
+#![tactic(auto)]
+
 ghost use Rattle.std.specs.Prelude.{◌≡◌, ℕ, ◌+◌, ◌*◌, ◌<◌, ◌≤◌, length};
 ghost use Rattle.seek.specs.Seek.{Rising, Seeking, Halved, Lower};
 
 // What is still to be searched: from..to, the end left out.
-#[derive(Drop)]
+#[derive(Clone, Copy)]
 pub struct Part {
     pub from: usize,
     pub to: usize,

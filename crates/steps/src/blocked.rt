@@ -26,7 +26,7 @@ const CLASS_FIELD: u32 = 536870912;
 const CLASSES: u32 = 8;
 
 // A class, with its number.
-#[derive(Drop)]
+#[derive(Clone, Copy)]
 struct Kind {
     number: usize,
     class: Class,

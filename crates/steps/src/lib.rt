@@ -1,4 +1,6 @@
 // Steps 2 to 4 of document 01 for the popped record, over the work area: `try_allocate_reg` and `allocate_blocked_reg` of the Rust module.
+#![tactic(auto)]
+
 use split::Turn;
 
 pub mod allocate;
@@ -8,7 +10,7 @@ mod taking;
 mod weighing;
 
 // What a piece gets of a register: all of it, or up to a split.
-#[derive(Drop)]
+#[derive(Clone, Copy)]
 enum Grant {
     Whole(u16),
     Part { register: u16, at: u16 },
@@ -16,7 +18,7 @@ enum Grant {
 }
 
 // A register was taken, whole or for a part; or step 4 is due.
-#[derive(Drop)]
+#[derive(Clone, Copy)]
 pub enum Tried {
     Taken(Turn),
     Blocked,

@@ -207,7 +207,7 @@ fn first_spill(work: &mut [u32], cap: usize, counts: Counts, k: usize, v: usize,
 }
 
 // A virtual register and its home.
-#[derive(Drop)]
+#[derive(Clone, Copy)]
 struct Owner {
     v: usize,
     home: Home,

@@ -1,4 +1,6 @@
 // The six tables: their entries read, and the checks 3 to 8 at entry, which the assigner and the checker share.
+#![tactic(auto)]
+
 pub mod check;
 mod classes;
 mod fixed;
@@ -10,7 +12,7 @@ mod safepoints;
 mod tests;
 
 // Where the mentions and the safepoints of an interval end.
-#[derive(Drop)]
+#[derive(Clone, Copy)]
 struct Ends {
     mentions: usize,
     safepoints: usize,

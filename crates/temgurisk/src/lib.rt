@@ -1,4 +1,6 @@
 // The C face: the two calls, their slices as pointer and count, and the answer as four words. include/temgurisk.h declares it.
+#![tactic(auto)]
+
 ghost use Rattle.std.specs.Prelude.{◌≡◌};
 ghost use Rattle.rules.specs.Call.{Assigned};
 ghost use Rattle.rules.specs.Checker.{Checks};
@@ -11,7 +13,7 @@ use rules::Answer;
 
 // An answer by document 01's numbers.
 #[repr(C)]
-#[derive(Drop)]
+#[derive(Clone, Copy)]
 pub struct Reply {
     pub number: u32,
     pub place: u32,

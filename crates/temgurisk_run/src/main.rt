@@ -1,4 +1,6 @@
 // Tables as text on standard input, answers on standard output. `temgurisk_run` alone prints how to use it; crates/cases/src/lib.rt has the form of a case.
+#![tactic(auto)]
+
 use answers::Way;
 use answers::explain::Said;
 use libc::STDERR_FILENO;
@@ -9,7 +11,7 @@ const ONE_WORD: usize = 2;
 const WITH_NUMBER_AND_PLACE: usize = 4;
 
 // What the program's words ask for.
-#[derive(Drop)]
+#[derive(Clone, Copy)]
 enum Command {
     Cases(Way),
     Sentence,

@@ -5,7 +5,7 @@ ghost use Rattle.turns.specs.Turns.{Holds};
 use libc::STDIN_FILENO;
 
 // How many bytes came; or there is more than the lent bytes but one can hold; or a read failed.
-#[derive(Drop)]
+#[derive(Clone, Copy)]
 pub(crate) enum Input {
     Whole(usize),
     TooLong,

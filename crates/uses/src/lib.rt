@@ -1,4 +1,6 @@
 // Uses: the next and the last use of a piece, what of it stays at a split, and where a split falls. By value and over lent tables, no work area.
+#![tactic(auto)]
+
 use rules::Piece;
 
 pub mod cuts;
@@ -7,14 +9,14 @@ pub mod places;
 pub mod safepoints;
 
 // The first safepoint of a run, by its instruction, if there is one.
-#[derive(Drop)]
+#[derive(Clone, Copy)]
 pub enum Safepoint {
     Missing,
     Instruction(u16),
 }
 
 // The two pieces that a split makes of one.
-#[derive(Drop)]
+#[derive(Clone, Copy)]
 pub struct Halves {
     pub parent: Piece,
     pub child: Piece,

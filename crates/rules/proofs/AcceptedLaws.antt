@@ -79,6 +79,7 @@ first_good g i n e k l h = unless_clean (g k) k (first_clean (λ j. bad_unless (
 -- a test that every entry passes, each passes
 pub every_mem : (f : ℕ → Bool) (l : List ℕ) → every f l ≡ true → (p : ℕ) → Memᴰ p l → f p ≡ true
 unfolding every
+every_mem f [] e p m = elim m [ ]
 every_mem f (x ∷ l) e p (Memᴰ.head d) = ap f d ∙ and_left (f x) _ e
 every_mem f (x ∷ l) e p (Memᴰ.tail m) = every_mem f l (and_right (f x) _ e) p m
 

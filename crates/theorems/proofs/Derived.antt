@@ -42,6 +42,7 @@ module _ (g : Given) (ok : Accepted g.tables) (small : g.capacity ≤ 16384) (S 
   T = g.tables
 
   but : (j : ℕ) → j ≢ k → But k j → ⊥
+  but j n (mathlib.Core.Logic.inl x') = elim x' [ ]
   but j n (inr e) = n e
 
   -- B4: the active records are in a register and contain S

@@ -38,6 +38,7 @@ within_false a e p h u v = let z : ◌≡◌ {A = Bool} true false = sym (rw (le
 -- no fragment contains S
 pub not_fixed : (S : ℕ) (ws : List ℕ) → fixed_active S ws ≡ false → (w : ℕ) → Memᴰ w ws → (fragment_in w).first ≤ S → S ≤ (fragment_in w).last → ⊥
 unfolding fixed_active
+not_fixed S [] e w x4 u v = elim x4 [ ]
 not_fixed S (x ∷ ws) e w (Memᴰ.head d) u v = within_false (fragment_in w).first (fragment_in w).last S (rw d (or_false (within (fragment_in x).first (fragment_in x).last S) (fixed_active S ws) e).0) u v
 not_fixed S (x ∷ ws) e w (Memᴰ.tail m) u v = not_fixed S ws (or_false (within (fragment_in x).first (fragment_in x).last S) (fixed_active S ws) e).1 w m u v
 

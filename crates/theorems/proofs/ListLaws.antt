@@ -28,6 +28,7 @@ module _ {A : Type 0} where
   mem_get_d (x ∷ l) (suc i) d h = Memᴰ.tail (mem_get_d l i d (omega arith))
 
   pub index_of : {a : A} (l : List A) (d : A) → Memᴰ a l → (i : ℕ) × (i < length l) × (get_or l i d ≡ a)
+  index_of {a = a} [] d x' = elim x' [ ]
   index_of (x ∷ l) d (Memᴰ.head e) = (0, omega arith, sym e)
   index_of (x ∷ l) d (Memᴰ.tail m) = let r = index_of l d m in (suc r.0, omega (arith, r.1), r.2)
 
@@ -37,6 +38,7 @@ module _ {A : Type 0} where
   mem_last (y ∷ l) x = Memᴰ.tail (mem_last l x)
 
   pub mem_left : {a : A} (l r : List A) → Memᴰ a l → Memᴰ a (l ++ r)
+  mem_left {a = a} [] r x' = elim x' [ ]
   mem_left (x ∷ l) r (Memᴰ.head e) = Memᴰ.head e
   mem_left (x ∷ l) r (Memᴰ.tail m) = Memᴰ.tail (mem_left l r m)
 
@@ -72,6 +74,7 @@ insert_new x (y ∷ l) = go (leb x y) (insert_new x l)
 
 pub insert_old : {a : ℕ} (x : ℕ) (l : List ℕ) → Memᴰ a l → Memᴰ a (insert x l)
 unfolding insert
+insert_old {a = a} x [] m = elim m [ ]
 insert_old {a} x (y ∷ l) m = go (leb x y) m (λ n. insert_old x l n)
   where
     go : (b : Bool) → Memᴰ a (y ∷ l) → (Memᴰ a l → Memᴰ a (insert x l)) → Memᴰ a (choose b (x ∷ y ∷ l) (y ∷ insert x l))
@@ -93,6 +96,7 @@ insert_is {a} x (y ∷ l) m = go (leb x y) m (λ n. insert_is x l n)
 
 -- nothing in an ascending list lies below where it begins
 pub asc_low : {a : ℕ} (lo : ℕ) (l : List ℕ) → Asc lo l → Memᴰ a l → lo ≤ a
+asc_low {a = a} lo [] s x'' = elim x'' [ ]
 asc_low lo (x ∷ l) s (Memᴰ.head e) = omega (arith, s.0)
 asc_low lo (x ∷ l) s (Memᴰ.tail m) = omega (arith, s.0, asc_low (suc x) l s.1 m)
 
@@ -113,6 +117,7 @@ asc_insert lo x (y ∷ l) h s n = go (leb x y) refl (λ k. asc_insert (suc y) x 
 -- ---- the entries that pass a test
 pub keep_has : {a : ℕ} (f : ℕ → Bool) (l : List ℕ) → Memᴰ a l → f a ≡ true → Memᴰ a (keep f l)
 unfolding keep
+keep_has {a = a} f [] m t = elim m [ ]
 keep_has {a} f (x ∷ l) m t = go (f x) refl m (λ n. keep_has f l n t)
   where
     go : (b : Bool) → f x ≡ b → Memᴰ a (x ∷ l) → (Memᴰ a l → Memᴰ a (keep f l)) → Memᴰ a (choose b (x ∷ keep f l) (keep f l))
@@ -123,6 +128,7 @@ keep_has {a} f (x ∷ l) m t = go (f x) refl m (λ n. keep_has f l n t)
 
 pub keep_passes : {a : ℕ} (f : ℕ → Bool) (l : List ℕ) → Memᴰ a (keep f l) → f a ≡ true
 unfolding keep
+keep_passes {a = a} f [] m = elim m [ ]
 keep_passes {a} f (x ∷ l) m = go (f x) refl m (λ n. keep_passes f l n)
   where
     go : (b : Bool) → f x ≡ b → Memᴰ a (choose b (x ∷ keep f l) (keep f l)) → (Memᴰ a (keep f l) → f a ≡ true) → f a ≡ true

@@ -107,6 +107,7 @@ module _ (g : Given) (ok : Accepted g.tables) (small : g.capacity ≤ 16384) whe
     noslot t e = register_slot (at s.pieces k).place r t d.place e
 
     new : (m : ℕ) → length s.pieces ≤ m → But k m → ⊥
+    new m l (inl x') = elim x' [ ]
     new m l (inr e) = omega (arith, d.here)
 
     mine : (j : ℕ) → InRange (at s.pieces k).mentions j → InRange (interval T (at s.pieces k).interval).mentions j

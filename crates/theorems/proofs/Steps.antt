@@ -123,6 +123,7 @@ module _ (g : Given) (ok : Accepted g.tables) (small : g.capacity ≤ 16384) whe
       ))
     where
       new : But k (length s.pieces) → ⊥
+      new (inl x') = elim x' [ ]
       new (inr e) = omega arith
 
       whole : (j : ℕ) → InRange (at s.pieces k).mentions j → first_point T j < p → last_point T j < p
@@ -195,6 +196,7 @@ module _ (g : Given) (ok : Accepted g.tables) (small : g.capacity ≤ 16384) whe
         elim (dec_lt (at s.pieces m).end S) [ yes l ↦ l | no l ↦ absurd (f m (x.tracked (omega arith)) p) ]
       where
         out : (m : ℕ) → m ≢ k → But k m → ⊥
+        out m n (inl x') = elim x' [ ]
         out m n (inr o) = n o
 
     record Holds (r j : ℕ) : Type 0 where
@@ -213,6 +215,7 @@ module _ (g : Given) (ok : Accepted g.tables) (small : g.capacity ≤ 16384) whe
         record { here = a; other = n; place = f.1; begun = (rw f.1 at (d.inv.held j a (out n))).begun; lasts = x.1 }
       where
         out : j ≢ k → But k j → ⊥
+        out n (inl x') = elim x' [ ]
         out n (inr o) = n o
 
     -- ---- a register r of the class, not fixed-active
@@ -301,6 +304,7 @@ module _ (g : Given) (ok : Accepted g.tables) (small : g.capacity ≤ 16384) whe
           b (omega (arith, d.begins, u.0)) (rw took (omega (arith, u.0))) (rw took u.1) (rw took (clear_b b x))
         where
           new : (m : ℕ) → length (take_register s k r).pieces ≤ m → But k m → ⊥
+          new m a (inl x'') = elim x'' [ ]
           new m a (inr v) = omega (arith, took_length, d.here)
 
       -- step 4, "if its first fragment start in S..end is b": f, the first use, is below b
@@ -373,6 +377,7 @@ module _ (g : Given) (ok : Accepted g.tables) (small : g.capacity ≤ 16384) whe
           same = y.others j o.here o.other
 
           out : (m : ℕ) → m ≢ k → But k m → ⊥
+          out m n (inl x') = elim x' [ ]
           out m n (inr e) = n e
 
           go : (m : ℕ) → m < length u.pieces → m ≢ k → (at u.pieces m).place ≡ Register r → Dec (m < length t.pieces) → Dec (m ≡ j) → (at u.pieces m).end < S
@@ -404,6 +409,7 @@ module _ (g : Given) (ok : Accepted g.tables) (small : g.capacity ≤ 16384) whe
           same = y.others j o.here o.other
 
           new : (m : ℕ) → length t.pieces ≤ m → But k m → ⊥
+          new m a (inl x') = elim x' [ ]
           new m a (inr v) = omega (arith, y.here)
 
           sj : Shape T (at s.pieces j)

@@ -131,6 +131,7 @@ last_is p (x ∷ xs) = go (leb x p) refl (last_use p xs) (last_is p xs)
 -- a point that the test does not find is none
 pub not_point : (p : ℕ) (xs : List ℕ) → is_point p xs ≡ false → Memᴰ p xs → ⊥
 unfolding is_point
+not_point p [] e x'' = elim x'' [ ]
 not_point p (x ∷ xs) e (Memᴰ.head d) = eqb-false p x (or_false (eqb p x) (is_point p xs) e).0 d
 not_point p (x ∷ xs) e (Memᴰ.tail m) = not_point p xs (or_false (eqb p x) (is_point p xs) e).1 m
 
@@ -144,17 +145,20 @@ any_below_lem p (x ∷ xs) e =
 
 pub none_below : (p : ℕ) (xs : List ℕ) → any_below p xs ≡ false → (x : ℕ) → Memᴰ x xs → p ≤ x
 unfolding any_below
+none_below p [] e y x3 = elim x3 [ ]
 none_below p (x ∷ xs) e y (Memᴰ.head d) = omega (arith, ltb-false x p (or_false (ltb x p) (any_below p xs) e).0)
 none_below p (x ∷ xs) e y (Memᴰ.tail m) = none_below p xs (or_false (ltb x p) (any_below p xs) e).1 y m
 
 -- the points of a run of mentions are those of its mentions
 pub points_has : {p w : ℕ} (ws : List ℕ) → Memᴰ w ws → Memᴰ p (points_in (mention_in w)) → Memᴰ p (mention_points ws)
 unfolding mention_points
+points_has {p = p} {w = w} [] x'' m = elim x'' [ ]
 points_has {p} {w} (x ∷ ws) (Memᴰ.head e) m = Memᴰ.append_left (mention_points ws) (rw e at m)
 points_has {p} {w} (x ∷ ws) (Memᴰ.tail n) m = Memᴰ.append_right (points_in (mention_in x)) (points_has ws n m)
 
 pub points_is : {p : ℕ} (ws : List ℕ) → Memᴰ p (mention_points ws) → (w : ℕ) × Memᴰ w ws × Memᴰ p (points_in (mention_in w))
 unfolding mention_points
+points_is {p = p} [] m = elim m [ ]
 points_is {p} (x ∷ ws) m =
     ⊎_elim (λ (a : Memᴰ p (points_in (mention_in x))). (x, Memᴰ.head refl, a)) (λ (b : Memᴰ p (mention_points ws)). let r = points_is ws b in (r.0, Memᴰ.tail r.1, r.2))
     (Memᴰ.append_cases (points_in (mention_in x)) m)

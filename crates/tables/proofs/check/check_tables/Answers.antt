@@ -1,7 +1,6 @@
 -- `tables::check::check_tables` meets its contract: each check hands on to the next or is the answer, and what the earlier ones found good is what the later ones ask.
 -- Assumes nothing.
 use Rattle.tables.proofs.OrderLaws.{in_order, few_instructions, few_classes, few_registers, few_intervals, few_mentions, few_safepoints, ranged, placed}
-use borrow.Author.Rules.{rules}
 use Rattle.tables.proofs.check.check_tables.Goals as goal
 
 pub returns-in-Refused : goal.returns-in-Refused
@@ -26,11 +25,10 @@ pub returns-in-Bad-bad_mention : goal.returns-in-Bad-bad_mention
 returns-in-Bad-bad_mention c = search in_order depth 8
 
 pub bad_safepoint-requires : goal.bad_safepoint-requires
-bad_safepoint-requires c =
-    (
-      (placed _ _ _ _ _ _ _ c.bad_interval.ensures c.in_default-bad_interval.is c.bad_mention.ensures c.in_default-bad_mention.is),
-      search few_safepoints,
-    )
+bad_safepoint-requires c = (
+  (placed _ _ _ _ _ _ _ c.bad_interval.ensures c.in_default-bad_interval.is c.bad_mention.ensures c.in_default-bad_mention.is),
+  search few_safepoints,
+)
 
 pub returns-in-Bad-bad_safepoint : goal.returns-in-Bad-bad_safepoint
 returns-in-Bad-bad_safepoint c = search in_order depth 8

@@ -1,10 +1,6 @@
 -- `tables::classes::bad_class` meets its contract: the walk stops at the first bad class. It carries the sum of the counts.
 -- Assumes nothing.
-use Rattle.tables.specs.Entries.{Summed, Walked}
-use Rattle.tables.specs.Given.{class_tables}
-use Rattle.rules.specs.Sound.{bad_unless, class_good, bad_class}
-use Prim.Native.Nat.{◌-◌}
-use lib.ListN.{length}
+use Rattle.rules.specs.Sound.{bad_class}
 use Rattle.tables.proofs.WalkLaws.{whole_starts, walk_more, walk_stops, walk_ends, test_clean, test_bad}
 use Rattle.tables.proofs.ClassLaws.{sum_starts, sum_more}
 use borrow.Author.Rules.{rules}

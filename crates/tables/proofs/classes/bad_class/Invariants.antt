@@ -2,12 +2,9 @@
 -- Assumes nothing.
 use Rattle.tables.specs.Entries.{Summed, Walked}
 use Rattle.tables.specs.Given.{class_tables}
-use Rattle.rules.specs.Sound.{bad_unless, class_good, bad_class}
+use Rattle.rules.specs.Sound.{bad_unless, class_good}
 use Prim.Native.Nat.{◌-◌}
 use lib.ListN.{length}
-use Rattle.tables.proofs.WalkLaws.{whole_starts, walk_more, walk_stops, walk_ends, test_clean, test_bad}
-use Rattle.tables.proofs.ClassLaws.{sum_starts, sum_more}
-use borrow.Author.Rules.{rules}
 use Rattle.tables.proofs.classes.bad_class.Given as goal
 
 abbrev pub invariant-loop-k : goal.invariant-loop-k

@@ -1,7 +1,6 @@
 -- `tables::classes::scratch_good` meets its contract: a class with registers has a scratch among them, one without has none.
 -- Assumes nothing.
 use Rattle.tables.proofs.ClassLaws.{scratch_some, scratch_none}
-use borrow.Author.Rules.{rules}
 use Rattle.tables.proofs.classes.scratch_good.Goals as goal
 
 pub returns-then-c-gt0 : goal.returns-then-c-gt0

@@ -1,7 +1,6 @@
 -- `tables::fixed::bad_fixed` meets its contract: the first bad register, else what is left over where there is none.
 -- Assumes nothing.
 use Rattle.tables.proofs.EntryLaws.{fixed_found}
-use borrow.Author.Rules.{rules}
 use Rattle.tables.proofs.fixed.bad_fixed.Goals as goal
 
 pub returns : goal.returns

@@ -1,12 +1,6 @@
 -- `tables::fixed::first_register` meets its contract: the walk stops at the first bad register.
 -- Assumes nothing.
-use Rattle.tables.specs.Entries.{Walked}
-use Rattle.tables.specs.Given.{fixed_tables}
-use Rattle.rules.specs.Sound.{bad_unless, register_good}
 use Rattle.tables.proofs.WalkLaws.{whole_starts, walk_more, walk_stops, walk_ends, test_clean, test_bad}
-use Prim.Native.Nat.{◌-◌}
-use lib.ListN.{length}
-use borrow.Author.Rules.{rules}
 use Rattle.tables.proofs.fixed.first_register.Goals as goal
 
 pub loop-r-init : goal.loop-r-init

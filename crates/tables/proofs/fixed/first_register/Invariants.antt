@@ -3,10 +3,8 @@
 use Rattle.tables.specs.Entries.{Walked}
 use Rattle.tables.specs.Given.{fixed_tables}
 use Rattle.rules.specs.Sound.{bad_unless, register_good}
-use Rattle.tables.proofs.WalkLaws.{whole_starts, walk_more, walk_stops, walk_ends, test_clean, test_bad}
 use Prim.Native.Nat.{◌-◌}
 use lib.ListN.{length}
-use borrow.Author.Rules.{rules}
 use Rattle.tables.proofs.fixed.first_register.Given as goal
 
 abbrev pub invariant-loop-r : goal.invariant-loop-r

@@ -1,9 +1,6 @@
 -- `tables::fixed::fragments_good` meets its contract: the walk stops at the first bad fragment.
 -- Assumes nothing.
-use Prim.Native.Nat.{◌-◌}
-use Rattle.tables.specs.Entries.{Passed}
 use Rattle.tables.proofs.EntryLaws.{passed_starts, passed_more, passed_stops, passed_ends}
-use borrow.Author.Rules.{rules}
 use Rattle.tables.proofs.fixed.fragments_good.Goals as goal
 
 pub loop-f-init : goal.loop-f-init

@@ -2,8 +2,6 @@
 -- Assumes nothing.
 use Prim.Native.Nat.{◌-◌}
 use Rattle.tables.specs.Entries.{Passed}
-use Rattle.tables.proofs.EntryLaws.{passed_starts, passed_more, passed_stops, passed_ends}
-use borrow.Author.Rules.{rules}
 use Rattle.tables.proofs.fixed.fragments_good.Given as goal
 
 abbrev pub invariant-loop-f : goal.invariant-loop-f

@@ -2,7 +2,6 @@
 -- Assumes nothing.
 use native.Mathlib.Omega.{arith}
 use Rattle.tables.proofs.EntryLaws.{register_bad, range_inside, register_good_by}
-use borrow.Author.Rules.{rules}
 use Rattle.tables.proofs.fixed.register_good.Goals as goal
 
 pub returns-then-not-range_good : goal.returns-then-not-range_good

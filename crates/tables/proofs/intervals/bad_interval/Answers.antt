@@ -1,7 +1,6 @@
 -- `tables::intervals::bad_interval` meets its contract: the first bad interval, else what is left over where there is none.
 -- Assumes nothing.
 use Rattle.tables.proofs.EntryLaws.{intervals_found}
-use borrow.Author.Rules.{rules}
 use Rattle.tables.proofs.intervals.bad_interval.Goals as goal
 
 pub returns : goal.returns

@@ -1,12 +1,6 @@
 -- `tables::intervals::first_interval` meets its contract: the walk stops at the first bad interval.
 -- Assumes nothing.
-use Rattle.tables.specs.Entries.{Walked}
-use Rattle.tables.specs.Given.{interval_tables}
-use Rattle.rules.specs.Sound.{bad_unless, interval_good}
-use Rattle.words.specs.Packed.{interval_count}
 use Rattle.tables.proofs.WalkLaws.{whole_starts, walk_more, walk_stops, walk_ends, test_clean, test_bad}
-use Prim.Native.Nat.{◌-◌}
-use borrow.Author.Rules.{rules}
 use Rattle.tables.proofs.intervals.first_interval.Goals as goal
 
 pub loop-v-init : goal.loop-v-init

@@ -4,9 +4,7 @@ use Rattle.tables.specs.Entries.{Walked}
 use Rattle.tables.specs.Given.{interval_tables}
 use Rattle.rules.specs.Sound.{bad_unless, interval_good}
 use Rattle.words.specs.Packed.{interval_count}
-use Rattle.tables.proofs.WalkLaws.{whole_starts, walk_more, walk_stops, walk_ends, test_clean, test_bad}
 use Prim.Native.Nat.{◌-◌}
-use borrow.Author.Rules.{rules}
 use Rattle.tables.proofs.intervals.first_interval.Given as goal
 
 abbrev pub invariant-loop-v : goal.invariant-loop-v

@@ -1,7 +1,6 @@
 -- `tables::limits::check_limits` meets its contract: the test of all limits decides.
 -- Assumes nothing.
 use Rattle.tables.proofs.WalkLaws.{limits_fine, limits_over}
-use borrow.Author.Rules.{rules}
 use Rattle.tables.proofs.limits.check_limits.Goals as goal
 
 pub returns-then-in_limits : goal.returns-then-in_limits

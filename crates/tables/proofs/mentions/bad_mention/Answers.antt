@@ -1,11 +1,8 @@
 -- `tables::mentions::bad_mention` meets its contract: the walk stops at the first interval that has a bad mention.
 -- Assumes nothing.
-use Rattle.tables.specs.Entries.{Walked, mention_find}
 use Rattle.rules.specs.Sound.{bad_mention}
-use Rattle.words.specs.Packed.{interval_at, interval_count}
 use Rattle.tables.proofs.EntryLaws.{mentions_clean, mentions_stop, mention_range}
 use Rattle.tables.proofs.WalkLaws.{whole_starts, walk_more, walk_ends}
-use Prim.Native.Nat.{◌-◌}
 use borrow.Author.Rules.{rules}
 use Rattle.tables.proofs.mentions.bad_mention.Goals as goal
 

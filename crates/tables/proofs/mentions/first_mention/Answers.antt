@@ -1,12 +1,6 @@
 -- `tables::mentions::first_mention` meets its contract: the walk stops at the first bad mention of the interval.
 -- Assumes nothing.
-use Rattle.tables.specs.Entries.{Walked}
-use Rattle.tables.specs.Given.{mention_tables}
-use Rattle.rules.specs.Sound.{bad_unless, mention_good}
-use mathlib.Core.List.{[]}
 use Rattle.tables.proofs.WalkLaws.{walk_starts, walk_more, walk_stops, walk_ends, test_clean, test_bad}
-use Prim.Native.Nat.{◌-◌}
-use borrow.Author.Rules.{rules}
 use Rattle.tables.proofs.mentions.first_mention.Goals as goal
 
 pub loop-j-init : goal.loop-j-init

@@ -1,7 +1,6 @@
 -- `tables::mentions::instruction_at` meets its contract: the instruction is a field of the mention that is read.
 -- Assumes nothing.
 use Rattle.tables.proofs.EntryLaws.{instruction_of_lem}
-use borrow.Author.Rules.{rules}
 use Rattle.tables.proofs.mentions.instruction_at.Goals as goal
 
 pub returns : goal.returns

@@ -1,7 +1,6 @@
 -- `tables::mentions::points_inside` meets its contract: a mention has its Use point, its Def point, or both.
 -- Assumes nothing.
 use Rattle.tables.proofs.EntryLaws.{points_inside}
-use borrow.Author.Rules.{rules}
 use Rattle.tables.proofs.mentions.points_inside.Goals as goal
 
 pub returns : goal.returns

@@ -1,12 +1,6 @@
 -- `tables::safepoints::first_safepoint` meets its contract: the walk stops at the first bad safepoint of the interval.
 -- Assumes nothing.
-use Rattle.tables.specs.Entries.{Walked}
-use Rattle.tables.specs.Given.{safepoint_tables}
-use Rattle.rules.specs.Sound.{bad_unless, safepoint_good}
-use mathlib.Core.List.{[]}
 use Rattle.tables.proofs.WalkLaws.{walk_starts, walk_more, walk_stops, walk_ends, test_clean, test_bad}
-use Prim.Native.Nat.{◌-◌}
-use borrow.Author.Rules.{rules}
 use Rattle.tables.proofs.safepoints.first_safepoint.Goals as goal
 
 pub loop-j-init : goal.loop-j-init

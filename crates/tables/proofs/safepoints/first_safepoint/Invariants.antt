@@ -4,9 +4,7 @@ use Rattle.tables.specs.Entries.{Walked}
 use Rattle.tables.specs.Given.{safepoint_tables}
 use Rattle.rules.specs.Sound.{bad_unless, safepoint_good}
 use mathlib.Core.List.{[]}
-use Rattle.tables.proofs.WalkLaws.{walk_starts, walk_more, walk_stops, walk_ends, test_clean, test_bad}
 use Prim.Native.Nat.{◌-◌}
-use borrow.Author.Rules.{rules}
 use Rattle.tables.proofs.safepoints.first_safepoint.Given as goal
 
 abbrev pub invariant-loop-j : goal.invariant-loop-j

@@ -1,7 +1,6 @@
 -- `tables::safepoints::never_alone` meets its contract: the mentions ascend, so the one that the search finds is the only one that may be at s.
 -- Assumes nothing.
 use Rattle.tables.proofs.SafepointLaws.{words_rise, none_there, one_there}
-use borrow.Author.Rules.{rules}
 use Rattle.tables.proofs.safepoints.never_alone.Goals as goal
 
 pub lower-k-requires : goal.lower-k-requires

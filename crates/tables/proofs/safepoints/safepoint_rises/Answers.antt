@@ -1,7 +1,6 @@
 -- `tables::safepoints::safepoint_rises` meets its contract: the first safepoint of an interval has none before it, every other is compared with the one before it.
 -- Assumes nothing.
 use Rattle.tables.proofs.EntryLaws.{rises_first, safepoint_rises}
-use borrow.Author.Rules.{rules}
 use Rattle.tables.proofs.safepoints.safepoint_rises.Goals as goal
 
 pub returns-then-j-r : goal.returns-then-j-r

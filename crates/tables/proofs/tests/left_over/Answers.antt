@@ -1,7 +1,6 @@
 -- `tables::tests::left_over` meets its contract: where there is no range, entries are left over.
 -- Assumes nothing.
 use Rattle.tables.proofs.WalkLaws.{unless_good, unless_bad}
-use borrow.Author.Rules.{rules}
 use Rattle.tables.proofs.tests.left_over.Goals as goal
 
 pub returns-then-n-len : goal.returns-then-n-len

@@ -1,7 +1,6 @@
 -- `tables::tests::or_else` meets its contract: the first find that is bad is the answer.
 -- Assumes nothing.
 use Rattle.tables.proofs.WalkLaws.{else_bad}
-use borrow.Author.Rules.{rules}
 use Rattle.tables.proofs.tests.or_else.Goals as goal
 
 pub returns-in-Bad : goal.returns-in-Bad

@@ -22,4 +22,4 @@ pub returns-then-not-rule3 : goal.returns-then-not-rule3
 returns-then-not-rule3 c = broken_at _ _ 3 _ (omega arith) (omega arith) (held_more _ _ 2 _ (held_more _ _ 1 _ (held_none _ _) (says_1 _ _ _ c.rule1.ensures.decides) c.if-not-rule1.false-raw) (says_2 _ _ _ c.rule2.ensures) c.if-not-rule2.false-raw) (says_3 _ _ _ c.rule3.ensures) c.if-not-rule3.true-raw
 
 pub last_four-requires : goal.last_four-requires
-last_four-requires c = record { ready = c.requires.ready; held = (held_more _ _ 3 _ (held_more _ _ 2 _ (held_more _ _ 1 _ (held_none _ _) (says_1 _ _ _ c.rule1.ensures.decides) c.if-not-rule1.false-raw) (says_2 _ _ _ c.rule2.ensures) c.if-not-rule2.false-raw) (says_3 _ _ _ c.rule3.ensures) c.if-not-rule3.false-raw); chains = (omega (arith, c.rule1.kept.next.1.1.1.0, c.requires.room.0), c.rule1.ensures.chains (not-false _ c.if-not-rule1.false-raw)) }
+last_four-requires c = record { ready = c.requires.ready; held = (held_more _ _ 3 _ (held_more _ _ 2 _ (held_more _ _ 1 _ (held_none _ _) (says_1 _ _ _ c.rule1.ensures.decides) c.if-not-rule1.false-raw) (says_2 _ _ _ c.rule2.ensures) c.if-not-rule2.false-raw) (says_3 _ _ _ c.rule3.ensures) c.if-not-rule3.false-raw); chains = (omega (arith, c.rule1.auto.head, c.requires.room.0), c.rule1.ensures.chains (not-false _ c.if-not-rule1.false-raw)) }

@@ -19,7 +19,7 @@ pub returns-then-not-rule5 : goal.returns-then-not-rule5
 returns-then-not-rule5 c = broken_at _ _ 5 _ (omega arith) (omega arith) (held_more _ _ 4 _ c.requires.held (says_4 _ _ _ c.rule4.ensures) c.if-not-rule4.false-raw) (says_5 _ _ _ c.rule5.ensures) c.if-not-rule5.true-raw
 
 pub rule6-requires : goal.rule6-requires
-rule6-requires c = record { room = (omega (arith, c.disown.kept.owner, c.requires.chains.0), c.requires.ready.intervals); place = (c.requires.ready.there, (tiling_of _ _ c.requires.ready (c.requires.held 1 (omega arith) (omega arith))).loose); empty = c.disown.ensures }
+rule6-requires c = record { room = (omega (arith, c.disown.auto.owner, c.requires.chains.0), c.requires.ready.intervals); place = (c.requires.ready.there, (tiling_of _ _ c.requires.ready (c.requires.held 1 (omega arith) (omega arith))).loose); empty = c.disown.ensures }
 
 pub returns-then-not-rule6 : goal.returns-then-not-rule6
 returns-then-not-rule6 c = broken_at _ _ 6 _ (omega arith) (omega arith) (held_more _ _ 5 _ (held_more _ _ 4 _ c.requires.held (says_4 _ _ _ c.rule4.ensures) c.if-not-rule4.false-raw) (says_5 _ _ _ c.rule5.ensures) c.if-not-rule5.false-raw) (says_6 _ _ _ c.rule6.ensures) c.if-not-rule6.true-raw

@@ -6,7 +6,7 @@ use mathlib.Core.Bool.{Bool, true, false, ◌||◌}
 use mathlib.Core.List.{List}
 use native.Mathlib.Omega.{arith}
 use lib.ListN.{length}
-use lib.Dec.{ltb, eqb}
+use lib.Dec.{ltb}
 use mir.Val.{Fits}
 use mir.Syntax.{w32}
 use borrow.Author.Tests.{lt-ltb, le-ltb, ltb-false, ne_eqb}
@@ -22,7 +22,7 @@ use Rattle.rules.specs.declared.Mode.{Mode}
 use Rattle.rules.specs.declared.Strategy.{Strategy}
 use Rattle.rules.specs.Answers.{number}
 use Rattle.rules.specs.Tables.{Tables}
-use Rattle.rules.specs.Sound.{and_then, check_tables}
+use Rattle.rules.specs.Sound.{check_tables}
 use Rattle.rules.specs.Room.{capacity, work_needed, strategy_of, check_room}
 use Rattle.rules.specs.State.{Outcome}
 use Rattle.rules.specs.Call.{Result, Assigned, assign, assign_by, check, unless_refused, mode_of, given, run_for, finish, write_records, zero_records}

@@ -1,29 +1,23 @@
 -- The record that a turn pops: its piece is as it was before the pop and after step 1, its class is in the table, and the cursors may rise to its start.
 -- Assumes nothing.
-use Prim.Native.Nat.{ℕ, ◌+◌, ◌*◌, ◌/◌, ◌%◌, ◌≤◌, ◌<◌}
+use Prim.Native.Nat.{ℕ, ◌<◌}
 use mathlib.Core.Path.{◌≡◌, refl, sym, ap, ◌∙◌}
-use mathlib.Core.List.{List, ◌∷◌, Memᴰ}
+use mathlib.Core.List.{List}
 use native.Mathlib.Omega.{arith}
 use lib.ListN.{length, get_or}
-use mir.Val.{Fits}
-use mir.Syntax.{w16}
 use Rattle.words.specs.declared.Class.{Class}
 use Rattle.words.specs.Packed.{class_at, interval_at, interval_count}
 use Rattle.rules.specs.declared.Piece.{Piece}
 use Rattle.rules.specs.declared.Pos.{Pos}
-use Rattle.rules.specs.State.{State, piece, no_piece, with_queue, record_of_key}
+use Rattle.rules.specs.State.{State, piece, no_piece, with_queue}
 use Rattle.rules.specs.Steps.{drop_ended}
 use Rattle.store.specs.declared.Counts.{Counts}
 use Rattle.store.specs.declared.Popped.{Popped}
 use Rattle.store.specs.StateOf.{state_of, Ready, Got, PoppedAs}
 use Rattle.activity.specs.declared.Tracker.{Tracker}
-use Rattle.activity.specs.Fixed.{Fixed}
-use Rattle.activity.specs.Cursors.{Cursors, Facing, advanced}
-use Rattle.activity.specs.Cursors as cursors
+use Rattle.activity.specs.Cursors.{Facing}
 use Rattle.activity.specs.Ended.{Dropped}
-use Rattle.activity.proofs.CursorLaws.{ready, updated_facing}
 use Rattle.choice.specs.Holding.{FreeRow}
-use Rattle.steps.specs.Stepping.{Tabled, class_for}
 use Rattle.assign.specs.declared.Start.{Start}
 use Rattle.assign.specs.declared.Front.{Front}
 use Rattle.assign.specs.Looping.{Started, Turning, Fronted, Faces}

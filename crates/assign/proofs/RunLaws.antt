@@ -1,6 +1,6 @@
 -- The main loop: what is left to run is what there was to run. The state at its head is one that the rules reach, so nothing queued starts before the last start, and the cursors may only rise.
 -- Assumes nothing.
-use Prim.Native.Nat.{ℕ, zero, suc, ◌+◌, ◌-◌, ◌*◌, ◌/◌, ◌≤◌, ◌<◌}
+use Prim.Native.Nat.{ℕ, zero, suc, ◌+◌, ◌-◌, ◌/◌, ◌≤◌, ◌<◌}
 use mathlib.Core.Path.{◌≡◌, refl, sym, ap, ◌∙◌}
 use mathlib.Core.List.{List, [], ◌∷◌, Memᴰ}
 use native.Mathlib.Omega.{arith}
@@ -17,10 +17,10 @@ use Rattle.rules.specs.declared.Pos.{Pos}
 use Rattle.rules.specs.declared.Pos.TheVariants.{Never}
 use Rattle.rules.specs.Tables.{Tables}
 use Rattle.rules.specs.Accepted.{Accepted}
-use Rattle.rules.specs.State.{Given, State, Outcome, goes, stops, go_on, piece, no_piece, with_queue, record_of_key, enqueue}
+use Rattle.rules.specs.State.{Given, State, Outcome, goes, go_on, piece, no_piece, with_queue, record_of_key, enqueue}
 use Rattle.rules.specs.Steps.{drop_ended, step}
 use Rattle.rules.specs.Run.{whole_interval, unqueued, enqueue_all, begin, run}
-use Rattle.rules.specs.Call.{given, run_for}
+use Rattle.rules.specs.Call.{run_for}
 use Rattle.rules.proofs.Runs.{run_empty, run_more}
 use Rattle.theorems.specs.Reach.{Reached, begins, pops}
 use Rattle.theorems.proofs.Loop.{reached_inv, pop_start, queue_ahead}

@@ -1,11 +1,10 @@
 -- Steps 2 to 5 for the popped record: the furthest register of the free-until row is the rules' choice, and the safepoints are looked at where the record goes on.
 -- Assumes nothing.
-use Prim.Native.Nat.{ℕ, ◌+◌, ◌≤◌, ◌<◌}
+use Prim.Native.Nat.{ℕ, ◌<◌}
 use mathlib.Core.Path.{◌≡◌, refl, sym, ap, ◌∙◌}
 use mathlib.Core.Bool.{Bool, true, false, not}
 use mathlib.Core.List.{List, []}
 use native.Mathlib.Omega.{arith}
-use lib.ListN.{length}
 use Rattle.words.specs.declared.Class.{Class}
 use Rattle.words.specs.Packed.{interval_count}
 use Rattle.rules.specs.declared.Answer.{Answer}
@@ -33,7 +32,7 @@ use Rattle.steps.specs.Stepping.{stepping, Parting, Stepping, Tries, Stays, Ende
 use Rattle.steps.proofs.AllocateLaws.{taken_only}
 use Rattle.steps.proofs.TakingLaws.{ended_from}
 use Rattle.assign.specs.declared.Front.{Front}
-use Rattle.assign.specs.Looping.{Takes, Looking, Past, Finishing, Finished, Read, Settling, settled, contended}
+use Rattle.assign.specs.Looping.{Takes, Looking, Past, Finishing, Finished, Read, Settling, contended}
 
 -- a turn that goes on stays ready
 pub did_stays : (cap : ℕ) (ms ss ws ws' : List ℕ) (c e : Counts) (r : Turn) (o : Outcome) → Did cap ms ss ws ws' c r o → r ≡ On e → Stays cap ms ss ws' c e

@@ -1,21 +1,20 @@
 -- Every piece still fits after a split, a place and a spill.
 -- Assumes nothing.
-use Prim.Native.Nat.{ℕ, zero, suc, ◌+◌, ◌-◌, ◌≤◌, ◌<◌}
-use mathlib.Core.Path.{◌≡◌, refl, sym, ap, ◌∙◌}
+use Prim.Native.Nat.{ℕ, zero, suc, ◌<◌}
+use mathlib.Core.Path.{◌≡◌, sym}
 use mathlib.Core.List.{List, [], ◌∷◌, ◌++◌}
 use native.Mathlib.Omega.{arith}
-use native.Mathlib.Decide.{dec_lt, ℕ_discrete}
-use lib.ListN.{length, get_or, set, length-append, length-set}
-use lib.Seq.{get_or-set_same, get_or-set_other, get_or-append-add}
+use native.Mathlib.Decide.{ℕ_discrete}
+use lib.ListN.{length, get_or, set, length-set}
+use lib.Seq.{get_or-set_same, get_or-set_other}
 use Rattle.words.specs.declared.Range.{Range}
-use Rattle.words.specs.Packed.{part, size_of}
 use Rattle.rules.specs.declared.Home.{Home}
 use Rattle.rules.specs.declared.Home.TheVariants.{Unspilled, Spilled}
 use Rattle.rules.specs.declared.Piece.{Piece}
 use Rattle.rules.specs.declared.Place.{Place}
-use Rattle.rules.specs.declared.Place.TheVariants.{Nowhere, Register, Slot}
+use Rattle.rules.specs.declared.Place.TheVariants.{Slot}
 use Rattle.rules.specs.State.{Given, State, no_piece, with_place, put, enqueue}
-use Rattle.rules.specs.Split.{first_of, rest_of, staying_mentions, staying_safepoints, parent, child, split_pieces}
+use Rattle.rules.specs.Split.{parent, child, split_pieces}
 use Rattle.rules.specs.Slots.{spill, spill_to}
 use Rattle.uses.specs.Runs.{Rising, Ascending, SubRange}
 use Rattle.uses.proofs.RunLaws.{sub_refl, sub_first, sub_rest, staying_most}

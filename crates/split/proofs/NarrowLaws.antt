@@ -1,7 +1,7 @@
 -- Splits and spills read no more than the strategy, three tables and the capacity of all that a run is given.
 -- Assumes nothing.
 use Prim.Native.Nat.{ℕ, ◌+◌, min}
-use mathlib.Core.Path.{◌≡◌, refl, sym, ap, ◌∙◌}
+use mathlib.Core.Path.{◌≡◌, refl, ap, ◌∙◌}
 use mathlib.Core.Bool.{Bool, true, false}
 use mathlib.Core.List.{[]}
 use lib.Dec.{ltb}
@@ -12,7 +12,7 @@ use Rattle.rules.specs.declared.Answer.TheVariants.{NoRecord}
 use Rattle.rules.specs.declared.Holder.{Holder}
 use Rattle.rules.specs.declared.Holder.TheVariants.{Free, Held}
 use Rattle.rules.specs.declared.Strategy.TheVariants.{From}
-use Rattle.rules.specs.State.{Given, State, Outcome, goes, stops, go_on, with_pieces}
+use Rattle.rules.specs.State.{Given, State, goes, stops, go_on, with_pieces}
 use Rattle.rules.specs.Slots.{spill}
 use Rattle.rules.specs.Split.{split_pieces, new_record, split, split_and_queue, split_if_any, pick, queue_tail, split_and_spill_by, split_and_spill}
 use Rattle.rules.specs.Steps.{spill_holder, spill_until}

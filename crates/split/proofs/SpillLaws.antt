@@ -1,8 +1,8 @@
 -- A spill and a split-and-spill in the work area are those of `rules`, and leave the area ready.
 -- Assumes nothing.
-use Prim.Native.Nat.{ℕ, zero, suc, ◌+◌, ◌-◌, ◌*◌, ◌^◌, ◌≤◌, ◌<◌, min}
-use mathlib.Core.Path.{◌≡◌, refl, sym, ap, ◌∙◌}
-use mathlib.Core.List.{List, [], ◌∷◌}
+use Prim.Native.Nat.{ℕ, ◌+◌, ◌*◌, ◌^◌, ◌≤◌, ◌<◌, min}
+use mathlib.Core.Path.{◌≡◌, refl, sym, ◌∙◌}
+use mathlib.Core.List.{List, []}
 use native.Mathlib.Omega.{arith}
 use lib.ListN.{length, get_or}
 use Rattle.words.specs.Field.{bits}
@@ -15,17 +15,16 @@ use Rattle.rules.specs.declared.Piece.{Piece}
 use Rattle.rules.specs.declared.Strategy.{Strategy}
 use Rattle.rules.specs.declared.Strategy.TheVariants.{From}
 use Rattle.rules.specs.Uses.{mention_points, next_use, last_use}
-use Rattle.rules.specs.State.{Given, State, Outcome, goes, stops, go_on, piece, with_pieces}
+use Rattle.rules.specs.State.{State, Outcome, goes, piece}
 use Rattle.rules.specs.Slots.{spill, spill_to}
-use Rattle.rules.specs.Split.{split_pieces, new_record, split, split_and_queue, split_if_any, pick, queue_tail, split_and_spill_by, split_and_spill}
+use Rattle.rules.specs.Split.{split, split_and_queue, split_if_any, pick, queue_tail, split_and_spill_by, split_and_spill}
 use Rattle.uses.specs.Runs.{Rising}
 use Rattle.store.specs.declared.Counts.{Counts}
-use Rattle.store.specs.StateOf.{state_of, Ready, After, Got}
+use Rattle.store.specs.StateOf.{state_of, After, Got}
 use Rattle.store.proofs.StateLaws.{records_are}
 use Rattle.split.specs.declared.Turn.{Turn}
 use Rattle.split.specs.declared.Turn.TheVariants.{On, Off}
-use Rattle.split.specs.Fit.{Fit}
-use Rattle.split.specs.Turns.{cutting, outcome_of, Held, HeldOf, Spilling, Went, Turned, on, off, Does, Parted, Spilt}
+use Rattle.split.specs.Turns.{cutting, outcome_of, Held, HeldOf, Turned, on, off, Does, Parted, Spilt}
 use Rattle.split.proofs.FitLaws.{fit_spill}
 use Rattle.split.proofs.SplitLaws.{split_room, split_full, got_rising}
 

@@ -1,13 +1,13 @@
 -- A piece that is split and then spilled.
 -- Assumes nothing.
-use Prim.Native.Nat.{ℕ, ◌+◌, ◌≤◌, ◌<◌}
+use Prim.Native.Nat.{ℕ}
 use mathlib.Core.Path.{◌≡◌, sym, ap, ◌∙◌}
 use mathlib.Core.List.{List, []}
 use native.Mathlib.Omega.{arith}
 use Rattle.rules.specs.declared.Answer.{Answer}
 use Rattle.rules.specs.declared.Strategy.{Strategy}
 use Rattle.rules.specs.declared.Strategy.TheVariants.{From}
-use Rattle.rules.specs.State.{Outcome, goes, stops, go_on}
+use Rattle.rules.specs.State.{goes}
 use Rattle.rules.specs.Slots.{spill}
 use Rattle.rules.specs.Split.{split_and_queue}
 use Rattle.store.specs.declared.Counts.{Counts}
@@ -15,7 +15,7 @@ use Rattle.store.specs.StateOf.{state_of}
 use Rattle.store.proofs.StateLaws.{records_are}
 use Rattle.split.specs.declared.Turn.{Turn}
 use Rattle.split.specs.declared.Turn.TheVariants.{On, Off}
-use Rattle.split.specs.Turns.{cutting, outcome_of, HeldOf, Went, on, off, Does, Spilt}
+use Rattle.split.specs.Turns.{cutting, outcome_of, HeldOf, on, Does, Spilt}
 use Rattle.split.proofs.FitLaws.{fit_spill}
 use Rattle.split.proofs.SpillLaws.{spill_any}
 use Rattle.split.specs.Turns.{split_then_spill}

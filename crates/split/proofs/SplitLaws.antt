@@ -1,29 +1,25 @@
 -- A split in the work area is the split of `rules`, and leaves the area ready.
 -- Assumes nothing.
-use Prim.Native.Nat.{ℕ, zero, suc, ◌+◌, ◌-◌, ◌≤◌, ◌<◌}
-use mathlib.Core.Path.{◌≡◌, refl, sym, ap, ◌∙◌}
-use mathlib.Core.Bool.{Bool, true, false}
+use Prim.Native.Nat.{ℕ, ◌+◌, ◌≤◌, ◌<◌}
+use mathlib.Core.Path.{◌≡◌, refl, sym, ◌∙◌}
 use mathlib.Core.List.{List, [], ◌∷◌, ◌++◌}
 use native.Mathlib.Omega.{arith}
-use lib.ListN.{length, get_or, set, take, length-append, length-set, length-take}
-use lib.Dec.{ltb}
+use lib.ListN.{length, set}
 use borrow.Author.Tests.{lt-ltb, le-ltb}
-use Rattle.words.specs.Choose.{choose}
-use Rattle.rules.specs.declared.Answer.{Answer}
 use Rattle.rules.specs.declared.Answer.TheVariants.{NoRecord}
 use Rattle.rules.specs.declared.Piece.{Piece}
 use Rattle.rules.specs.declared.Strategy.{Strategy}
-use Rattle.rules.specs.State.{Given, State, Outcome, goes, stops, go_on, no_piece, piece, with_pieces, enqueue}
-use Rattle.rules.specs.Split.{parent, child, split_pieces, new_record, split, split_and_queue}
+use Rattle.rules.specs.State.{Given, State, goes, stops, with_pieces, enqueue}
+use Rattle.rules.specs.Split.{split_pieces, new_record, split, split_and_queue}
 use Rattle.uses.specs.Runs.{Rising, Orderly}
 use Rattle.uses.specs.Cuts.{Cut}
 use Rattle.uses.specs.declared.Halves.{Halves}
 use Rattle.store.specs.declared.Counts.{Counts}
 use Rattle.store.proofs.StateLaws.{records_are}
-use Rattle.store.specs.StateOf.{state_of, Ready, After, Got}
+use Rattle.store.specs.StateOf.{state_of, After, Got}
 use Rattle.split.specs.declared.Turn.TheVariants.{On, Off}
-use Rattle.split.specs.Fit.{PieceFits, Fit}
-use Rattle.split.specs.Turns.{cutting, outcome_of, Held, Went, Turned, on, off, Does, Halved, HalvesPut, Parted}
+use Rattle.split.specs.Fit.{PieceFits}
+use Rattle.split.specs.Turns.{cutting, outcome_of, Held, on, off, Does, Halved, HalvesPut, Parted}
 use Rattle.split.proofs.FitLaws.{fit_split, fit_enqueue}
 
 -- a split for which there is room, and one for which there is none

@@ -1,17 +1,15 @@
 -- A turn that is matched on: it goes on with its counts, or stops with its answer.
 -- Assumes nothing.
-use Prim.Native.Nat.{ℕ, ◌+◌, ◌≤◌, ◌<◌}
-use mathlib.Core.Path.{◌≡◌, refl, sym, ap, ◌∙◌}
-use mathlib.Core.List.{List, []}
+use Prim.Native.Nat.{ℕ}
+use mathlib.Core.Path.{◌≡◌, sym, ◌∙◌}
+use mathlib.Core.List.{List}
 use native.Mathlib.Omega.{arith}
-use lib.ListN.{length}
 use Rattle.rules.specs.declared.Answer.{Answer}
 use Rattle.rules.specs.State.{State, Outcome, goes, stops, go_on}
 use Rattle.store.specs.declared.Counts.{Counts}
-use Rattle.store.specs.StateOf.{state_of, Ready}
+use Rattle.store.specs.StateOf.{state_of}
 use Rattle.split.specs.declared.Turn.{Turn}
 use Rattle.split.specs.declared.Turn.TheVariants.{On, Off}
-use Rattle.split.specs.Fit.{Fit}
 use Rattle.split.specs.Turns.{outcome_of, HeldOf, Spilling, Went, Turned, on, off, Does}
 use Rattle.split.proofs.SpillLaws.{further}
 

@@ -1,6 +1,6 @@
 -- Steps 2 and 3 in the work area are those of the rules.
 -- Assumes nothing.
-use Prim.Native.Nat.{ℕ, ◌+◌, ◌≤◌, ◌<◌}
+use Prim.Native.Nat.{ℕ, ◌<◌}
 use mathlib.Core.Path.{◌≡◌, refl, sym, ap, ◌∙◌}
 use mathlib.Core.Bool.{Bool, true, false}
 use mathlib.Core.List.{List, []}
@@ -20,7 +20,7 @@ use Rattle.rules.specs.declared.Pos.{Pos}
 use Rattle.rules.specs.declared.Pos.TheVariants.{Blocked, At, Never}
 use Rattle.rules.specs.declared.Strategy.TheVariants.{From}
 use Rattle.rules.specs.Uses.{mention_points}
-use Rattle.rules.specs.State.{Given, State, Outcome, goes, stops, go_on, piece}
+use Rattle.rules.specs.State.{Given, State, Outcome, goes, go_on, piece}
 use Rattle.rules.specs.Split.{split_and_queue, partial_place}
 use Rattle.rules.specs.Steps.{take_register, allocate_blocked, take_until, try_at, try_take}
 use Rattle.store.specs.declared.Counts.{Counts}
@@ -32,10 +32,9 @@ use Rattle.split.specs.Fit.{Fit}
 use Rattle.split.specs.Turns.{cutting, outcome_of, Held, Does}
 use Rattle.split.proofs.NarrowLaws.{queue_any}
 use Rattle.split.proofs.TurnLaws.{on_goes, on_went, off_stops}
-use Rattle.steps.specs.Stepping.{stepping, Parting, Taking, Took, Tries, grant_part, grant_until, grant_of, partial_at, take_part, Stays, ended, refused, Did}
+use Rattle.steps.specs.Stepping.{stepping, Parting, Taking, Took, Tries, grant_part, grant_until, grant_of, partial_at, take_part, ended, refused, Did}
 use Rattle.steps.specs.declared.Grant.{Grant}
 use Rattle.steps.specs.declared.Grant.TheVariants.{Whole, Part, Refused}
-use Rattle.steps.specs.declared.Tried.{Tried}
 use Rattle.steps.specs.declared.Tried.TheVariants.{Taken}
 use Rattle.steps.specs.declared.Tried.TheVariants as tried
 use Rattle.steps.proofs.TakingLaws.{fit_take}

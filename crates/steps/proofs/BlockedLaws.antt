@@ -1,16 +1,15 @@
 -- Step 4 in the work area is step 4 of the rules.
 -- Assumes nothing.
-use Prim.Native.Nat.{ℕ, ◌+◌, ◌*◌, ◌≤◌, ◌<◌}
+use Prim.Native.Nat.{ℕ, ◌≤◌, ◌<◌}
 use mathlib.Core.Path.{◌≡◌, refl, sym, ap, ◌∙◌}
 use mathlib.Core.Bool.{Bool, true, false}
-use mathlib.Core.List.{List, [], ◌∷◌}
+use mathlib.Core.List.{List, []}
 use native.Mathlib.Omega.{arith}
-use lib.ListN.{length, get_or, set, replicate, length-replicate}
+use lib.ListN.{get_or, set, replicate, length-replicate}
 use lib.Seq.{get_or-set_same}
-use lib.Dec.{leb}
 use borrow.Author.Tests.{le-leb, lt-leb}
 use Rattle.words.specs.Choose.{choose}
-use Rattle.words.specs.Packed.{part, class_at, register_at, interval_at, interval_count}
+use Rattle.words.specs.Packed.{part, interval_count}
 use Rattle.words.specs.declared.Class.{Class}
 use Rattle.words.specs.declared.Spot.{Spot}
 use Rattle.words.specs.declared.Spot.TheVariants.{Nothing, Point}
@@ -22,32 +21,29 @@ use Rattle.rules.specs.declared.Mode.{Mode}
 use Rattle.rules.specs.declared.Piece.{Piece}
 use Rattle.rules.specs.declared.Pos.{Pos}
 use Rattle.rules.specs.declared.Pos.TheVariants.{Blocked, At, Never}
-use Rattle.rules.specs.declared.Strategy.TheVariants.{From}
 use Rattle.rules.specs.Positions.{below}
-use Rattle.rules.specs.Uses.{mention_points, is_point, next_use}
-use Rattle.rules.specs.State.{Given, State, Outcome, goes, stops, go_on, piece, points_of, class_of, fragments_of}
+use Rattle.rules.specs.Uses.{mention_points, next_use}
+use Rattle.rules.specs.State.{Given, State, Outcome, goes, stops, go_on, piece, fragments_of}
 use Rattle.rules.specs.Split.{partial_split}
 use Rattle.rules.specs.Steps.{first_start, take_register, furthest, furthest_of, holder, next_use_pos, only_scratch, cut_at, cut_before, spill_holder, spill_until, take_over, weigh, blocked_by, allocate_blocked}
 use Rattle.store.specs.declared.Counts.{Counts}
-use Rattle.store.specs.StateOf.{state_of, Ready, Got}
+use Rattle.store.specs.StateOf.{state_of, Got}
 use Rattle.store.proofs.StateLaws.{owner_of}
 use Rattle.activity.specs.declared.Tracker.{Tracker}
-use Rattle.activity.specs.Fixed.{fixed_pos}
 use Rattle.activity.specs.Cursors.{Facing}
 use Rattle.choice.specs.Row.{pos_in, FixedRow}
-use Rattle.choice.specs.Holding.{Runs, HolderRow, NextRow, next_pos}
+use Rattle.choice.specs.Holding.{Runs, HolderRow, next_pos}
 use Rattle.choice.proofs.HoldingLaws.{next_row}
 use Rattle.choice.proofs.ChoiceLaws.{Takes, furthest_takes, next_choice, block_start}
 use Rattle.split.specs.declared.Turn.{Turn}
 use Rattle.split.specs.declared.Turn.TheVariants.{On, Off}
-use Rattle.split.specs.Fit.{Fit}
-use Rattle.split.specs.Turns.{cutting, outcome_of, HeldOf, Does, off, Spilt}
+use Rattle.split.specs.Turns.{outcome_of, HeldOf, Spilt}
 use Rattle.uses.specs.Runs.{Rising}
 use Rattle.split.proofs.SpillLaws.{of_rising}
 use Rattle.split.proofs.SpillingLaws.{spilt_does}
 use Rattle.split.proofs.NarrowLaws.{spill_narrow, queue_any, until_any, and_narrow, holder_narrow}
 use Rattle.steps.specs.declared.blocked.Kind.{Kind}
-use Rattle.steps.specs.Stepping.{first_use, stepping, placing, Tabled, class_for, HasClass, KindOf, Contending, Weighing, Weighed, Popping, Stepping, take_over_at, weigh_by, Chosen, Did, refused}
+use Rattle.steps.specs.Stepping.{first_use, stepping, placing, class_for, HasClass, KindOf, Contending, Weighing, Weighed, Popping, Stepping, take_over_at, weigh_by, Chosen, Did, refused}
 use Rattle.steps.proofs.TakingLaws.{did}
 
 -- ---- what is read once the register is known

@@ -1,12 +1,11 @@
 -- A register that is taken in the work area is taken in the rules.
 -- Assumes nothing.
 use Prim.Native.Nat.{ℕ, ◌+◌, ◌≤◌, ◌<◌}
-use mathlib.Core.Path.{◌≡◌, refl, sym, ap, ◌∙◌}
+use mathlib.Core.Path.{◌≡◌, refl, sym, ◌∙◌}
 use mathlib.Core.Bool.{Bool, true, false}
 use mathlib.Core.List.{List, [], ◌∷◌, ◌++◌}
 use native.Mathlib.Omega.{arith}
 use lib.ListN.{length}
-use Rattle.words.specs.Choose.{choose}
 use Rattle.words.specs.Packed.{part}
 use Rattle.words.specs.declared.Spot.{Spot}
 use Rattle.words.specs.declared.Spot.TheVariants.{Nothing, Point}
@@ -22,16 +21,16 @@ use Rattle.rules.specs.declared.Pos.TheVariants.{Blocked, At, Never}
 use Rattle.rules.specs.declared.Strategy.{Strategy}
 use Rattle.rules.specs.declared.Strategy.TheVariants.{From}
 use Rattle.rules.specs.Uses.{mention_points, is_point}
-use Rattle.rules.specs.State.{State, Outcome, goes, stops, go_on, piece, put, with_active}
+use Rattle.rules.specs.State.{State, Outcome, goes, stops, put, with_active}
 use Rattle.rules.specs.Split.{split_and_queue, split_and_spill, partial_place}
 use Rattle.rules.specs.Steps.{take_register, cut_at, cut_before, spill_holder}
 use Rattle.store.specs.declared.Counts.{Counts}
-use Rattle.store.specs.StateOf.{state_of, Ready, After, Got}
-use Rattle.store.proofs.StateLaws.{records_are, after_then}
+use Rattle.store.specs.StateOf.{state_of, After, Got}
+use Rattle.store.proofs.StateLaws.{records_are}
 use Rattle.split.specs.declared.Turn.{Turn}
 use Rattle.split.specs.declared.Turn.TheVariants.{On, Off}
 use Rattle.split.specs.Fit.{Fit}
-use Rattle.split.specs.Turns.{cutting, outcome_of, Held, HeldOf, Went, Turned, on, off, Does}
+use Rattle.split.specs.Turns.{cutting, outcome_of, Held, HeldOf, Turned, on, off, Does}
 use Rattle.split.proofs.FitLaws.{fit_put}
 use Rattle.split.proofs.SpillLaws.{stays}
 use Rattle.split.proofs.NarrowLaws.{queue_any, and_narrow, holder_narrow}

@@ -1,12 +1,12 @@
 -- What is weighed in the work area is what the rules weigh.
 -- Assumes nothing.
-use Prim.Native.Nat.{ℕ, zero, suc, ◌+◌, ◌≤◌, ◌<◌}
+use Prim.Native.Nat.{ℕ, ◌+◌, ◌≤◌, ◌<◌}
 use mathlib.Core.Path.{◌≡◌, refl, sym, ap, ◌∙◌}
 use mathlib.Core.Bool.{Bool, true, false}
-use mathlib.Core.List.{List, [], ◌∷◌}
+use mathlib.Core.List.{List}
 use native.Mathlib.Omega.{arith}
 use native.Mathlib.Numerals.{add-one}
-use lib.ListN.{length, get_or, drop, drop_of_length-le}
+use lib.ListN.{length, drop, drop_of_length-le}
 use lib.Seq.{drop-cons}
 use lib.Dec.{eqb}
 use borrow.Author.Tests.{eq-eqb, ne_eqb}
@@ -24,14 +24,14 @@ use Rattle.rules.specs.declared.Pos.{Pos}
 use Rattle.rules.specs.declared.Pos.TheVariants.{At}
 use Rattle.rules.specs.declared.Strategy.TheVariants.{From}
 use Rattle.rules.specs.Positions.{below}
-use Rattle.rules.specs.State.{Given, Outcome, goes, stops, go_on, piece}
+use Rattle.rules.specs.State.{piece}
 use Rattle.rules.specs.Steps.{is_register, holder_in, holder, spill_until}
 use Rattle.store.specs.declared.Counts.{Counts}
 use Rattle.store.specs.StateOf.{state_of, Ready, Got, GotActive}
 use Rattle.store.proofs.StateLaws.{active_are}
 use Rattle.choice.specs.Row.{pos_in}
 use Rattle.split.specs.declared.Turn.{Turn}
-use Rattle.split.specs.declared.Turn.TheVariants.{On, Off}
+use Rattle.split.specs.declared.Turn.TheVariants.{Off}
 use Rattle.split.specs.Turns.{cutting, outcome_of, HeldOf, Does, off, split_then_spill}
 use Rattle.split.proofs.NarrowLaws.{until_any}
 use Rattle.steps.specs.Stepping.{placing, Popping, HolderOf, take_over_at, weigh_by, Chosen, Did}

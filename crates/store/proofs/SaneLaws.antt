@@ -1,6 +1,6 @@
 -- Each operation on a state keeps it sane. Pure laws of `rules`' state: nothing here speaks of words or cells.
 -- Assumes nothing.
-use Prim.Native.Nat.{ℕ, zero, suc, ◌+◌, ◌-◌, ◌*◌, ◌^◌, ◌≤◌, ◌<◌}
+use Prim.Native.Nat.{ℕ, zero, suc, ◌+◌, ◌*◌, ◌^◌, ◌≤◌, ◌<◌}
 use mathlib.Core.Path.{◌≡◌, refl, ap}
 use mathlib.Core.Bool.{Bool, true, false}
 use mathlib.Core.List.{List, [], ◌∷◌, ◌++◌}
@@ -12,7 +12,7 @@ use Rattle.words.specs.Choose.{choose}
 use Rattle.rules.specs.declared.Piece.{Piece}
 use Rattle.rules.specs.declared.Home.{Home}
 use Rattle.rules.specs.declared.Home.TheVariants.{Unspilled, Spilled}
-use Rattle.rules.specs.State.{State, with_pieces, with_queue, with_active, with_homes, piece, key, record_of_key, insert, enqueue}
+use Rattle.rules.specs.State.{State, with_pieces, with_queue, with_active, with_homes, key, record_of_key, insert, enqueue}
 use Rattle.rules.specs.Slots.{round_up}
 use Rattle.store.specs.StateOf.{Each, none, more, spilled_in, Sane}
 

@@ -13,7 +13,7 @@ use Rattle.rules.specs.declared.Home.TheVariants.{Unspilled, Spilled}
 use Rattle.rules.specs.declared.Piece.{Piece}
 use Rattle.rules.specs.Tables.{Tables}
 use Rattle.rules.specs.Accepted.{Accepted}
-use Rattle.rules.specs.State.{Given, State, stops, go_on, with_queue, no_piece, record_of_key, enqueue}
+use Rattle.rules.specs.State.{Given, State, go_on, with_queue, no_piece, record_of_key, enqueue}
 use Rattle.rules.specs.Steps.{step}
 use Rattle.rules.specs.Run.{whole_interval, unqueued, enqueue_all, begin, pop, run}
 use Rattle.theorems.specs.Invariant.{Good, NoOne, at, spilled_homes, Shape, Inv, first_point, last_point}

@@ -2,9 +2,9 @@
 -- Assumes nothing.
 use Prim.Native.Nat.{ℕ, ◌≤◌, ◌<◌}
 use mathlib.Core.Bool.{Bool}
-use mathlib.Core.List.{List, [], ◌∷◌}
+use mathlib.Core.List.{List}
 use native.Mathlib.Omega.{arith}
-use lib.ListN.{length, drop, length-take}
+use lib.ListN.{drop, length-take}
 use Rattle.words.specs.declared.Range.{Range}
 use Rattle.words.specs.Packed.{part, interval_count}
 use Rattle.rules.specs.Tables.{Tables}

@@ -2,8 +2,7 @@
 -- Assumes nothing.
 use Prim.Native.Nat.{◌-◌}
 use lib.ListN.{length}
-use Rattle.activity.proofs.UpdateLaws.{Setting, setting_starts, setting_more, setting_ends}
-use borrow.Author.Rules.{rules}
+use Rattle.activity.proofs.UpdateLaws.{Setting}
 use Rattle.activity.proofs.fresh.Given as goal
 
 abbrev pub invariant-loop-r : goal.invariant-loop-r

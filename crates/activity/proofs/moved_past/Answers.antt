@@ -1,8 +1,6 @@
 -- `activity::moved_past` meets its contract: what is left of the move from `f` is the whole move from `from`.
 -- Assumes nothing.
-use Prim.Native.Nat.{◌-◌}
-use Rattle.activity.proofs.UpdateLaws.{Moving, moving_starts, moving_more, moving_found, moving_ends}
-use borrow.Author.Rules.{rules}
+use Rattle.activity.proofs.UpdateLaws.{moving_starts, moving_more, moving_found, moving_ends}
 use Rattle.activity.proofs.moved_past.Goals as goal
 
 pub loop-f-init : goal.loop-f-init

@@ -1,9 +1,8 @@
 -- `activity::updated` meets its contract: each turn moves the cursor of one register of the class, and the cursors that are still to move stand among their fragments.
 -- Assumes nothing.
 use native.Mathlib.Omega.{arith}
-use Prim.Native.Nat.{◌+◌, ◌-◌, ◌<◌}
-use Rattle.activity.proofs.UpdateLaws.{Updating, updating_none, class_bits, updating_starts, updating_more, updating_ends, turn_stop, turn_from, turn_fits, turn_cursor}
-use borrow.Author.Rules.{rules}
+use Prim.Native.Nat.{◌<◌}
+use Rattle.activity.proofs.UpdateLaws.{updating_none, class_bits, updating_starts, updating_more, updating_ends, turn_stop, turn_from, turn_fits, turn_cursor}
 use Rattle.activity.proofs.updated.Goals as goal
 
 pub none_set-requires : goal.none_set-requires

@@ -1,9 +1,7 @@
 -- `activity::updated` meets its contract: each turn moves the cursor of one register of the class, and the cursors that are still to move stand among their fragments.
 -- Assumes nothing.
-use native.Mathlib.Omega.{arith}
-use Prim.Native.Nat.{◌+◌, ◌-◌, ◌<◌}
-use Rattle.activity.proofs.UpdateLaws.{Updating, updating_none, class_bits, updating_starts, updating_more, updating_ends, turn_stop, turn_from, turn_fits, turn_cursor}
-use borrow.Author.Rules.{rules}
+use Prim.Native.Nat.{◌+◌, ◌-◌}
+use Rattle.activity.proofs.UpdateLaws.{Updating}
 use Rattle.activity.proofs.updated.Given as goal
 
 abbrev pub invariant-loop-r : goal.invariant-loop-r

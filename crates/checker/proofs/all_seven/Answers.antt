@@ -3,7 +3,6 @@
 use Rattle.checker.proofs.VerdictLaws.{says_1, says_2, says_3, held_none, held_more, broken_at}
 use borrow.Author.Tests.{not-false}
 use native.Mathlib.Omega.{arith}
-use borrow.Author.Rules.{rules}
 use Rattle.checker.proofs.all_seven.Goals as goal
 
 pub returns-then-not-rule1 : goal.returns-then-not-rule1

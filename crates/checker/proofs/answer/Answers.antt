@@ -1,6 +1,5 @@
 -- `answer` meets its contract: one answer for each verdict.
 -- Assumes nothing.
-use borrow.Author.Rules.{rules}
 use Rattle.checker.proofs.answer.Goals as goal
 
 pub returns-in-Obeyed : goal.returns-in-Obeyed

@@ -5,7 +5,6 @@ use Rattle.checker.proofs.ReadyLaws.{ready}
 use Rattle.rules.proofs.Accepted.{accepted}
 use mathlib.Core.Path.{sym, ◌∙◌}
 use native.Mathlib.Omega.{arith}
-use borrow.Author.Rules.{rules}
 use Rattle.checker.proofs.check.Goals as goal
 
 pub returns-then-count-gt-MOST_RECORDS : goal.returns-then-count-gt-MOST_RECORDS

@@ -2,7 +2,6 @@
 -- Assumes nothing.
 use Rattle.checker_rules.proofs.OrderLaws.{empty_zeros}
 use native.Mathlib.Omega.{arith}
-use borrow.Author.Rules.{rules}
 use Rattle.checker.proofs.judge.Goals as goal
 
 pub all_seven-requires : goal.all_seven-requires

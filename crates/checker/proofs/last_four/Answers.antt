@@ -3,7 +3,6 @@
 use Rattle.checker.proofs.VerdictLaws.{says_4, says_5, says_6, says_7, held_more, broken_at}
 use Rattle.checker.proofs.ReadyLaws.{tiling_of, below_of, registers_of, few_registers}
 use native.Mathlib.Omega.{arith}
-use borrow.Author.Rules.{rules}
 use Rattle.checker.proofs.last_four.Goals as goal
 
 pub rule4-requires : goal.rule4-requires

@@ -2,7 +2,6 @@
 -- Assumes nothing.
 use Rattle.split.proofs.SpillLaws.{of_rising}
 use Rattle.safepoints.proofs.SafepointLaws.{at_none, at_kept, at_spilt}
-use borrow.Author.Rules.{rules}
 use Rattle.safepoints.proofs.keep_or_spill.Goals as goal
 
 pub last_use-requires : goal.last_use-requires

@@ -2,7 +2,6 @@
 -- Assumes nothing.
 use Rattle.split.proofs.SpillLaws.{of_rising}
 use Rattle.safepoints.proofs.SafepointLaws.{next_none, next_some}
-use borrow.Author.Rules.{rules}
 use Rattle.safepoints.proofs.spill_to_next.Goals as goal
 
 pub next_use-requires : goal.next_use-requires

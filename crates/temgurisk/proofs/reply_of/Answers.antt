@@ -4,7 +4,6 @@ use mathlib.Core.Path.{◌≡◌, ◌∙◌, ap, sym}
 use Rattle.rules.specs.declared.Answer.{Answer}
 use Rattle.temgurisk.specs.Replies.{reply_of}
 use Rattle.temgurisk.specs.declared.Reply.{Reply}
-use borrow.Author.Rules.{rules}
 use Rattle.temgurisk.proofs.reply_of.Goals as goal
 
 -- the reply to an answer that is known to be v

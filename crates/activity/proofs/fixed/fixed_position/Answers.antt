@@ -1,7 +1,6 @@
 -- `activity::fixed::fixed_position` meets its contract: the fragment at the cursor is the first that does not end before the start, so it alone decides.
 -- Assumes nothing.
 use Rattle.activity.proofs.FixedLaws.{says_none, says_blocked, says_at, says_never}
-use borrow.Author.Rules.{rules}
 use Rattle.activity.proofs.fixed.fixed_position.Goals as goal
 
 pub returns-then-stop-at : goal.returns-then-stop-at

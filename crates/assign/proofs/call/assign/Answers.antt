@@ -1,7 +1,6 @@
 -- `assign::call::assign` meets its contract: the strategy, the checks, then the run; what it answers after the checks is none of 2 to 9.
 -- Assumes nothing.
 use Rattle.assign.proofs.CallLaws.{unknown, turned_away, lets_in, let_in}
-use borrow.Author.Rules.{rules}
 use Rattle.assign.proofs.call.assign.Goals as goal
 
 pub returns-in_default : goal.returns-in_default

@@ -1,7 +1,6 @@
 -- `assign::call::conclude` meets its contract: the records are those of the state at the end, and a refusal zeroes.
 -- Assumes nothing.
 use Rattle.assign.proofs.CallLaws.{done_ready, done_out, done_count, concludes_done, concludes_refused}
-use borrow.Author.Rules.{rules}
 use Rattle.assign.proofs.call.conclude.Goals as goal
 
 pub emit-requires : goal.emit-requires

@@ -1,7 +1,6 @@
 -- `assign::entry::check` meets its contract: the tables first, then the room.
 -- Assumes nothing.
 use Rattle.assign.proofs.CallLaws.{check_refused, check_passed}
-use borrow.Author.Rules.{rules}
 use Rattle.assign.proofs.entry.check.Goals as goal
 
 pub returns-in-Refused : goal.returns-in-Refused

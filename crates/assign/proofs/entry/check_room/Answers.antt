@@ -1,7 +1,6 @@
 -- `assign::entry::check_room` meets its contract: the two tests in order.
 -- Assumes nothing.
 use Rattle.assign.proofs.CallLaws.{room_few, room_short, room_fine}
-use borrow.Author.Rules.{rules}
 use Rattle.assign.proofs.entry.check_room.Goals as goal
 
 pub returns-then-cap-intervals : goal.returns-then-cap-intervals

@@ -1,7 +1,6 @@
 -- `assign::entry::strategy_of` meets its contract: each number names its strategy, and no other number names one.
 -- Assumes nothing.
 use Rattle.assign.proofs.CallLaws.{named, unnamed}
-use borrow.Author.Rules.{rules}
 use Rattle.assign.proofs.entry.strategy_of.Goals as goal
 
 pub returns-in-1 : goal.returns-in-1

@@ -1,8 +1,6 @@
 -- `assign::run::run` meets its contract: each turn is one pop of the rules' run, and what is left to run is what there was to run.
 -- Assumes nothing.
-use native.Mathlib.Omega.{arith}
-use Prim.Native.Nat.{◌-◌}
-use Rattle.assign.proofs.RunLaws.{Going, going_few, going_starts, going_turns, going_empty, going_out, going_tracks, going_faces, going_takes, did_settle, still_steps, did_contend, going_on, going_off}
+use Rattle.assign.proofs.RunLaws.{going_few, going_starts, going_turns, going_empty, going_out, going_tracks, going_faces, going_takes, did_settle, still_steps, did_contend, going_on, going_off}
 use borrow.Author.Rules.{rules}
 use Rattle.assign.proofs.run.run.Goals as goal
 

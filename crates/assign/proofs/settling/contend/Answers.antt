@@ -1,7 +1,6 @@
 -- `assign::settling::contend` meets its contract: step 4, then step 5.
 -- Assumes nothing.
 use Rattle.assign.proofs.SettleLaws.{contend_held, contends}
-use borrow.Author.Rules.{rules}
 use Rattle.assign.proofs.settling.contend.Goals as goal
 
 pub finish-requires : goal.finish-requires

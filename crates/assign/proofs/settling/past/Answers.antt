@@ -1,7 +1,6 @@
 -- `assign::settling::past` meets its contract: a piece that does not look, or a run that is refused.
 -- Assumes nothing.
 use Rattle.assign.proofs.SettleLaws.{look_ready, look_inside, look_rows, past_on, past_off}
-use borrow.Author.Rules.{rules}
 use Rattle.assign.proofs.settling.past.Goals as goal
 
 pub looks_at-requires : goal.looks_at-requires

@@ -1,10 +1,7 @@
 -- `rule1::ended` meets its contract: the intervals passed have their end; one that has not misses a point.
 -- Assumes nothing.
-use Rattle.checker_rules.proofs.TilesLaws.{EndedTo, ended_starts, ended_more, ended_breaks, ended_ends}
-use Rattle.words.specs.Packed.{interval_count}
+use Rattle.checker_rules.proofs.TilesLaws.{ended_starts, ended_more, ended_breaks, ended_ends}
 use mathlib.Core.Path.{refl}
-use Prim.Native.Nat.{◌-◌}
-use borrow.Author.Rules.{rules}
 use Rattle.checker_rules.proofs.rule1.ended.Goals as goal
 
 pub loop-v-init : goal.loop-v-init

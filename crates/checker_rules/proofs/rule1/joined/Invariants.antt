@@ -1,9 +1,7 @@
 -- `rule1::joined` meets its contract: what the walk has seen is covered exactly once up to where each interval is expected to go on.
 -- Assumes nothing.
-use Rattle.checker_rules.proofs.TilesLaws.{Joining, joining_starts, joining_ends, joining_breaks, joining_more}
-use Rattle.checker_rules.proofs.OrderLaws.{due, left, left_less}
-use mathlib.Core.Path.{refl}
-use borrow.Author.Rules.{rules}
+use Rattle.checker_rules.proofs.TilesLaws.{Joining}
+use Rattle.checker_rules.proofs.OrderLaws.{left}
 use Rattle.checker_rules.proofs.rule1.joined.Given as goal
 
 abbrev pub invariant-loop-turn : goal.invariant-loop-turn

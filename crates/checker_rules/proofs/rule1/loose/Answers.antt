@@ -1,8 +1,6 @@
 -- `rule1::loose` meets its contract: all records passed so far sit.
 -- Assumes nothing.
-use Rattle.checker_rules.proofs.TilesLaws.{LooseTo, loose_starts, loose_ends, loose_broken, loose_more}
-use Prim.Native.Nat.{◌-◌}
-use borrow.Author.Rules.{rules}
+use Rattle.checker_rules.proofs.TilesLaws.{loose_starts, loose_ends, loose_broken, loose_more}
 use Rattle.checker_rules.proofs.rule1.loose.Goals as goal
 
 pub loop-k-init : goal.loop-k-init

@@ -1,8 +1,7 @@
 -- `rule1::loose` meets its contract: all records passed so far sit.
 -- Assumes nothing.
-use Rattle.checker_rules.proofs.TilesLaws.{LooseTo, loose_starts, loose_ends, loose_broken, loose_more}
+use Rattle.checker_rules.proofs.TilesLaws.{LooseTo}
 use Prim.Native.Nat.{◌-◌}
-use borrow.Author.Rules.{rules}
 use Rattle.checker_rules.proofs.rule1.loose.Given as goal
 
 abbrev pub invariant-loop-k : goal.invariant-loop-k

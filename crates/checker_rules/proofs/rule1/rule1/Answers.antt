@@ -1,7 +1,6 @@
 -- `rule1::rule1` meets its contract: a record that does not sit breaks the rule; where all sit the walk decides.
 -- Assumes nothing.
 use Rattle.checker_rules.proofs.TilesLaws.{below, loosely, rule1_loose, rule1_tiled}
-use borrow.Author.Rules.{rules}
 use Rattle.checker_rules.proofs.rule1.rule1.Goals as goal
 
 pub returns-then-not-loose : goal.returns-then-not-loose

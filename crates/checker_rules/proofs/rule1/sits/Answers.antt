@@ -1,7 +1,6 @@
 -- `rule1::sits` meets its contract: each return names the one test that fails, the last has passed them all.
 -- Assumes nothing.
 use Rattle.checker_rules.proofs.TilesLaws.{sits_kind, sits_spare, sits_order, sits_names, sits_from, sits_to, sits_all}
-use borrow.Author.Rules.{rules}
 use Rattle.checker_rules.proofs.rule1.sits.Goals as goal
 
 pub returns-then-not-known : goal.returns-then-not-known

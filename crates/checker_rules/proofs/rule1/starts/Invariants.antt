@@ -1,9 +1,8 @@
 -- `rule1::starts` meets its contract: the intervals passed have their start.
 -- Assumes nothing.
-use Rattle.checker_rules.proofs.TilesLaws.{Starting, starting_starts, starting_more, starting_ends}
+use Rattle.checker_rules.proofs.TilesLaws.{Starting}
 use Rattle.words.specs.Packed.{interval_count}
 use Prim.Native.Nat.{◌-◌}
-use borrow.Author.Rules.{rules}
 use Rattle.checker_rules.proofs.rule1.starts.Given as goal
 
 abbrev pub invariant-loop-v : goal.invariant-loop-v

@@ -1,7 +1,6 @@
 -- `rule1::tiled` meets its contract: the walk came to the end, and every interval is where it should be.
 -- Assumes nothing.
 use Rattle.checker_rules.proofs.TilesLaws.{tiled_broken, tiled_fronted}
-use borrow.Author.Rules.{rules}
 use Rattle.checker_rules.proofs.rule1.tiled.Goals as goal
 
 pub joined-requires : goal.joined-requires

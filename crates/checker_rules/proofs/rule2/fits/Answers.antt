@@ -1,7 +1,6 @@
 -- `rule2::fits` meets its contract: it looks at the mentions of the record's own interval.
 -- Assumes nothing.
 use Rattle.checker_rules.proofs.HousedLaws.{row_of, ordered, fits_of}
-use borrow.Author.Rules.{rules}
 use Rattle.checker_rules.proofs.rule2.fits.Goals as goal
 
 pub fits_in-requires : goal.fits_in-requires

@@ -1,8 +1,6 @@
 -- `rule2::fits_in` meets its contract: mentions before the search lie before the record, and after one that lies past it all do.
 -- Assumes nothing.
-use Rattle.checker_rules.proofs.HousedLaws.{FitsTo, fits_starts, fits_past, fits_breaks, fits_more, fits_ends}
-use Prim.Native.Nat.{◌-◌}
-use borrow.Author.Rules.{rules}
+use Rattle.checker_rules.proofs.HousedLaws.{fits_starts, fits_past, fits_breaks, fits_more, fits_ends}
 use Rattle.checker_rules.proofs.rule2.fits_in.Goals as goal
 
 pub loop-m-init : goal.loop-m-init

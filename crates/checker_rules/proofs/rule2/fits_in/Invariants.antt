@@ -1,8 +1,7 @@
 -- `rule2::fits_in` meets its contract: mentions before the search lie before the record, and after one that lies past it all do.
 -- Assumes nothing.
-use Rattle.checker_rules.proofs.HousedLaws.{FitsTo, fits_starts, fits_past, fits_breaks, fits_more, fits_ends}
+use Rattle.checker_rules.proofs.HousedLaws.{FitsTo}
 use Prim.Native.Nat.{◌-◌}
-use borrow.Author.Rules.{rules}
 use Rattle.checker_rules.proofs.rule2.fits_in.Given as goal
 
 abbrev pub invariant-loop-m : goal.invariant-loop-m

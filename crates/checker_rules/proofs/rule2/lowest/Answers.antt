@@ -1,7 +1,6 @@
 -- `rule2::lowest` meets its contract: a use or mod has the Use point; with neither, a mention that has a point has the Def point.
 -- Assumes nothing.
 use Rattle.checker_rules.proofs.HousedLaws.{low_use, low_mod, low_def}
-use borrow.Author.Rules.{rules}
 use Rattle.checker_rules.proofs.rule2.lowest.Goals as goal
 
 pub returns-then-m : goal.returns-then-m

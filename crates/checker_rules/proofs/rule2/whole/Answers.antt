@@ -1,7 +1,6 @@
 -- `rule2::whole` meets its contract: a record that a mention does not touch is fine; one that it touches is a register record with both its ends.
 -- Assumes nothing.
 use Rattle.checker_rules.proofs.HousedLaws.{whole_after, whole_before, whole_slot, whole_starts, whole_ends, whole_all}
-use borrow.Author.Rules.{rules}
 use Rattle.checker_rules.proofs.rule2.whole.Goals as goal
 
 pub returns-then-l-a : goal.returns-then-l-a

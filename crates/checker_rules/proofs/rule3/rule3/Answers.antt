@@ -1,10 +1,8 @@
 -- `rule3::rule3` meets its contract: all records passed so far suit.
 -- Assumes nothing.
 use Rattle.checker_rules.proofs.UsableLaws.{rule3_breaks, rule3_holds}
-use Rattle.checker_rules.proofs.SaysLaws.{EachTo, each_starts, each_more, each_breaks, each_ends}
+use Rattle.checker_rules.proofs.SaysLaws.{each_starts, each_more, each_breaks, each_ends}
 use Rattle.checker_rules.specs.Usable.{Suits}
-use Prim.Native.Nat.{◌-◌}
-use borrow.Author.Rules.{rules}
 use Rattle.checker_rules.proofs.rule3.rule3.Goals as goal
 
 pub loop-k-init : goal.loop-k-init

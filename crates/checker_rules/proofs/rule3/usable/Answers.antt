@@ -2,7 +2,6 @@
 -- Assumes nothing.
 use Rattle.checker_rules.proofs.UsableLaws.{class_end, class_low, class_high, class_scratch, class_is}
 use native.Mathlib.Omega.{arith}
-use borrow.Author.Rules.{rules}
 use Rattle.checker_rules.proofs.rule3.usable.Goals as goal
 
 pub returns-then-number-c : goal.returns-then-number-c

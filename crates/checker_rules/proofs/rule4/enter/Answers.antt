@@ -2,7 +2,6 @@
 -- Assumes nothing.
 use Rattle.checker_rules.proofs.LanesLaws.{enter_slot, enter_clash, enter_moves}
 use native.Mathlib.Omega.{arith}
-use borrow.Author.Rules.{rules}
 use Rattle.checker_rules.proofs.rule4.enter.Goals as goal
 
 pub returns-then-r-ne-IN_REGISTER : goal.returns-then-r-ne-IN_REGISTER

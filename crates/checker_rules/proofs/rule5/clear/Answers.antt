@@ -1,7 +1,6 @@
 -- `rule5::clear` meets its contract: a slot record is clear; a register record is if it meets no fragment of its register.
 -- Assumes nothing.
 use Rattle.checker_rules.proofs.FixedLaws.{clear_slot, clear_meets, clear_not, run_of, place_of, ordered_of}
-use borrow.Author.Rules.{rules}
 use Rattle.checker_rules.proofs.rule5.clear.Goals as goal
 
 pub returns-then-r-ne-IN_REGISTER : goal.returns-then-r-ne-IN_REGISTER

@@ -1,7 +1,6 @@
 -- `rule5::meets` meets its contract: the last fragment that starts at the last point or before is the one to look at.
 -- Assumes nothing.
 use Rattle.checker_rules.proofs.FixedLaws.{rising, meets_none, meets_not, meets_does}
-use borrow.Author.Rules.{rules}
 use Rattle.checker_rules.proofs.rule5.meets.Goals as goal
 
 pub lower-j-requires : goal.lower-j-requires

@@ -1,10 +1,8 @@
 -- `rule5::rule5` meets its contract: all records passed so far are clear.
 -- Assumes nothing.
 use Rattle.checker_rules.proofs.FixedLaws.{rule5_breaks, rule5_holds}
-use Rattle.checker_rules.proofs.SaysLaws.{EachTo, each_starts, each_more, each_breaks, each_ends}
+use Rattle.checker_rules.proofs.SaysLaws.{each_starts, each_more, each_breaks, each_ends}
 use Rattle.checker_rules.specs.Fixed.{Clear}
-use Prim.Native.Nat.{◌-◌}
-use borrow.Author.Rules.{rules}
 use Rattle.checker_rules.proofs.rule5.rule5.Goals as goal
 
 pub loop-k-init : goal.loop-k-init

@@ -1,8 +1,6 @@
 -- `rule6::own` meets its contract: the units passed have the entry.
 -- Assumes nothing.
-use Rattle.checker_rules.proofs.SlotsLaws.{OwnTo, own_starts, own_more, own_ends}
-use Prim.Native.Nat.{◌-◌}
-use borrow.Author.Rules.{rules}
+use Rattle.checker_rules.proofs.SlotsLaws.{own_starts, own_more, own_ends}
 use Rattle.checker_rules.proofs.rule6.own.Goals as goal
 
 pub loop-u-init : goal.loop-u-init

@@ -1,8 +1,7 @@
 -- `rule6::own` meets its contract: the units passed have the entry.
 -- Assumes nothing.
-use Rattle.checker_rules.proofs.SlotsLaws.{OwnTo, own_starts, own_more, own_ends}
+use Rattle.checker_rules.proofs.SlotsLaws.{OwnTo}
 use Prim.Native.Nat.{◌-◌}
-use borrow.Author.Rules.{rules}
 use Rattle.checker_rules.proofs.rule6.own.Given as goal
 
 abbrev pub invariant-loop-u : goal.invariant-loop-u

@@ -4,7 +4,6 @@ use Rattle.checker_rules.proofs.SlotsLaws.{put_other, put_misfit, put_differs, p
 use native.Mathlib.Nat.{lt_of_lt_of_le}
 use native.Mathlib.Omega.{arith}
 use mathlib.Core.Path.{refl}
-use borrow.Author.Rules.{rules}
 use Rattle.checker_rules.proofs.rule6.settle.Goals as goal
 
 pub returns-then-r-ne-IN_SLOT : goal.returns-then-r-ne-IN_SLOT

@@ -1,8 +1,7 @@
 -- `rule6::settled` meets its contract: the tables hold what the records passed so far say.
 -- Assumes nothing.
-use Rattle.checker_rules.proofs.SlotsLaws.{Settling, settling_starts, settling_more, settling_breaks, settling_ends}
+use Rattle.checker_rules.proofs.SlotsLaws.{Settling}
 use Prim.Native.Nat.{◌-◌}
-use borrow.Author.Rules.{rules}
 use Rattle.checker_rules.proofs.rule6.settled.Given as goal
 
 abbrev pub invariant-loop-k : goal.invariant-loop-k

@@ -1,7 +1,6 @@
 -- `rule6::size_of` meets its contract: the four logarithms, one by one.
 -- Assumes nothing.
 use Rattle.checker_rules.proofs.SlotsLaws.{size_0, size_1, size_2, size_3}
-use borrow.Author.Rules.{rules}
 use Rattle.checker_rules.proofs.rule6.size_of.Goals as goal
 
 pub returns-then-log-eq0 : goal.returns-then-log-eq0

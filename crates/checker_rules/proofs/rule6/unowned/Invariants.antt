@@ -1,8 +1,7 @@
 -- `rule6::unowned` meets its contract: the units passed are nobody's.
 -- Assumes nothing.
-use Rattle.checker_rules.proofs.SlotsLaws.{BareTo, bare_starts, bare_more, bare_breaks, bare_ends}
+use Rattle.checker_rules.proofs.SlotsLaws.{BareTo}
 use Prim.Native.Nat.{◌-◌}
-use borrow.Author.Rules.{rules}
 use Rattle.checker_rules.proofs.rule6.unowned.Given as goal
 
 abbrev pub invariant-loop-u : goal.invariant-loop-u

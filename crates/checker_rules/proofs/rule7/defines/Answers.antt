@@ -1,8 +1,6 @@
 -- `rule7::defines` meets its contract: a mention at s is the one that the search finds, and it has the Def point if it is a mod or a def.
 -- Assumes nothing.
 use Rattle.checker_rules.proofs.SafeLaws.{def_none, def_other, def_mod, def_is}
-use mathlib.Core.Path.{refl}
-use borrow.Author.Rules.{rules}
 use Rattle.checker_rules.proofs.rule7.defines.Goals as goal
 
 pub returns-then-hi-j : goal.returns-then-hi-j

@@ -1,10 +1,8 @@
 -- `rule7::rule7` meets its contract: all records passed so far are safe.
 -- Assumes nothing.
 use Rattle.checker_rules.proofs.SafeLaws.{rule7_breaks, rule7_holds}
-use Rattle.checker_rules.proofs.SaysLaws.{EachTo, each_starts, each_more, each_breaks, each_ends}
+use Rattle.checker_rules.proofs.SaysLaws.{each_starts, each_more, each_breaks, each_ends}
 use Rattle.checker_rules.specs.Safe.{Safe}
-use Prim.Native.Nat.{◌-◌}
-use borrow.Author.Rules.{rules}
 use Rattle.checker_rules.proofs.rule7.rule7.Goals as goal
 
 pub loop-k-init : goal.loop-k-init

@@ -2,7 +2,6 @@
 -- Assumes nothing.
 use Rattle.checker_rules.proofs.SafeLaws.{points_of_lem, at_slot, at_plain, at_safe}
 use Rattle.checker_rules.proofs.HousedLaws.{row_of}
-use borrow.Author.Rules.{rules}
 use Rattle.checker_rules.proofs.rule7.safe_at.Goals as goal
 
 pub returns-then-r-ne-IN_REGISTER : goal.returns-then-r-ne-IN_REGISTER

@@ -1,8 +1,6 @@
 -- `rule7::safe_in` meets its contract: the first safepoint is the one that the search finds, if its Use is not past the last point.
 -- Assumes nothing.
 use Rattle.checker_rules.proofs.SafeLaws.{safe_none, safe_past, safe_ends, safe_not, safe_is}
-use mathlib.Core.Path.{refl}
-use borrow.Author.Rules.{rules}
 use Rattle.checker_rules.proofs.rule7.safe_in.Goals as goal
 
 pub returns-then-sh-j : goal.returns-then-sh-j

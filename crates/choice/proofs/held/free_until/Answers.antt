@@ -1,7 +1,6 @@
 -- `choice::held::free_until` meets its contract: what the fragments say, blocked where an active piece holds the register, is free-until.
 -- Assumes nothing.
 use Rattle.choice.proofs.HoldingLaws.{free_row, free_unfixed, class_bits}
-use borrow.Author.Rules.{rules}
 use Rattle.choice.proofs.held.free_until.Goals as goal
 
 pub none_set-requires : goal.none_set-requires

@@ -3,8 +3,7 @@
 use Prim.Native.Nat.{◌+◌}
 use Rattle.choice.specs.Holding.{next_pos}
 use Rattle.store.specs.StateOf.{state_of}
-use Rattle.choice.proofs.HoldingLaws.{Holding, next_starts, next_used, next_rising, walk_active, seat_fits, seat_span, walk_past, walk_at, walk_ends}
-use borrow.Author.Rules.{rules}
+use Rattle.choice.proofs.HoldingLaws.{Holding}
 use Rattle.choice.proofs.held.next_use_row.Given as goal
 
 abbrev pub invariant-loop-i : goal.invariant-loop-i

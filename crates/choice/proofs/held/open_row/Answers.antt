@@ -1,9 +1,7 @@
 -- `choice::held::open_row` meets its contract: each turn fills the entry of one register more.
 -- Assumes nothing.
-use Prim.Native.Nat.{◌+◌, ◌-◌}
 use Rattle.activity.proofs.CursorLaws.{facing_faced}
-use Rattle.choice.proofs.HoldingLaws.{Filled, fixed_at, filled_starts, opening_more, opening_ends}
-use borrow.Author.Rules.{rules}
+use Rattle.choice.proofs.HoldingLaws.{filled_starts, opening_more, opening_ends}
 use Rattle.choice.proofs.held.open_row.Goals as goal
 
 pub loop-r-init : goal.loop-r-init

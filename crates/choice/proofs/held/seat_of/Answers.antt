@@ -1,7 +1,6 @@
 -- `choice::held::seat_of` meets its contract: only a register of first..stop has a seat.
 -- Assumes nothing.
 use Rattle.choice.proofs.HoldingLaws.{seat_nowhere, seat_slot, seat_below, seat_inside, seat_above}
-use borrow.Author.Rules.{rules}
 use Rattle.choice.proofs.held.seat_of.Goals as goal
 
 pub returns-then-r-first : goal.returns-then-r-first

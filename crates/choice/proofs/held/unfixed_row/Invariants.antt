@@ -1,8 +1,7 @@
 -- `choice::held::unfixed_row` meets its contract: each turn fills the entry of one register more.
 -- Assumes nothing.
 use Prim.Native.Nat.{◌+◌, ◌-◌}
-use Rattle.choice.proofs.HoldingLaws.{Filled, never_at, filled_starts, filled_more, unfixing_ends}
-use borrow.Author.Rules.{rules}
+use Rattle.choice.proofs.HoldingLaws.{Filled, never_at}
 use Rattle.choice.proofs.held.unfixed_row.Given as goal
 
 abbrev pub invariant-loop-r : goal.invariant-loop-r

@@ -1,7 +1,6 @@
 -- `choice::positions::better_of` meets its contract: only a register that is not scratch and lies strictly above the best takes its place.
 -- Assumes nothing.
 use Rattle.choice.proofs.PositionLaws.{never_scratch, first_choice, no_choice, better_choice, same_choice}
-use borrow.Author.Rules.{rules}
 use Rattle.choice.proofs.positions.better_of.Goals as goal
 
 pub returns-then-r-scratch : goal.returns-then-r-scratch

@@ -1,9 +1,7 @@
 -- `choice::positions::furthest_of` meets its contract: a turn weighs four registers, so that what is left of the scan, with the best so far, is the whole scan; from a best at never nothing is left.
 -- Assumes nothing.
 use Prim.Native.Nat.{◌-◌}
-use Rattle.choice.proofs.FurthestLaws.{Scanned, scanned_starts, scanned_ends}
-use Rattle.choice.proofs.EntryLaws.{scanned_more, scanned_stops}
-use borrow.Author.Rules.{rules}
+use Rattle.choice.proofs.FurthestLaws.{Scanned}
 use Rattle.choice.proofs.positions.furthest_of.Given as goal
 
 abbrev pub invariant-loop-r : goal.invariant-loop-r

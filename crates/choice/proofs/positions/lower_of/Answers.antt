@@ -1,7 +1,6 @@
 -- `choice::positions::lower_of` meets its contract: it goes by the same cases as the definition.
 -- Assumes nothing.
 use Rattle.choice.proofs.PositionLaws.{lower_never, lower_first, lower_second}
-use borrow.Author.Rules.{rules}
 use Rattle.choice.proofs.positions.lower_of.Goals as goal
 
 pub returns-then-x-y : goal.returns-then-x-y

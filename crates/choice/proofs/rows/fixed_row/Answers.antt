@@ -1,9 +1,7 @@
 -- `choice::rows::fixed_row` meets its contract: each turn fills the entry of one register more, and only that.
 -- Assumes nothing.
-use Prim.Native.Nat.{◌+◌, ◌-◌}
 use Rattle.activity.proofs.CursorLaws.{facing_faced}
-use Rattle.choice.proofs.RowLaws.{Filling, filling_starts, filling_more, filling_ends}
-use borrow.Author.Rules.{rules}
+use Rattle.choice.proofs.RowLaws.{filling_starts, filling_more, filling_ends}
 use Rattle.choice.proofs.rows.fixed_row.Goals as goal
 
 pub loop-r-init : goal.loop-r-init

@@ -2,7 +2,6 @@
 -- Assumes nothing.
 use Rattle.split.proofs.TurnLaws.{on_spilling}
 use Rattle.split.proofs.SpillingLaws.{then_spilt, then_off}
-use borrow.Author.Rules.{rules}
 use Rattle.split.proofs.spilling.split_then_spill.Goals as goal
 
 pub spill-requires : goal.spill-requires

@@ -2,8 +2,6 @@
 -- Assumes nothing.
 use Rattle.split.proofs.SplitLaws.{got_rising}
 use Rattle.split.proofs.SpillLaws.{tail_none, tail_some}
-use Rattle.split.proofs.spills.queue_tail.Lts as lts
-use borrow.Author.Rules.{rules}
 use Rattle.split.proofs.spills.queue_tail.Goals as goal
 
 -- src/spills.rt:41:26

@@ -1,7 +1,6 @@
 -- `split::spills::split_and_spill` meets its contract: by the last use, as the rules say.
 -- Assumes nothing.
 use Rattle.split.proofs.SpillLaws.{of_rising, last_some, last_none}
-use borrow.Author.Rules.{rules}
 use Rattle.split.proofs.spills.split_and_spill.Goals as goal
 
 pub last_use-last-requires : goal.last_use-last-requires

@@ -1,7 +1,6 @@
 -- `split::splits::split` meets its contract: the halves of the piece that was read are put.
 -- Assumes nothing.
 use Rattle.split.proofs.SplitLaws.{got_orderly, halved, parted}
-use Rattle.split.proofs.splits.split.Lts as lts
 use borrow.Author.Rules.{rules}
 use Rattle.split.proofs.splits.split.Goals as goal
 

@@ -1,7 +1,6 @@
 -- `split::splits::split_and_queue` meets its contract: 10 where there is no record, else the split of `split` and the new record queued.
 -- Assumes nothing.
 use Rattle.split.proofs.SplitLaws.{full, queued}
-use Rattle.split.proofs.splits.split_and_queue.Lts as lts
 use borrow.Author.Rules.{rules}
 use Rattle.split.proofs.splits.split_and_queue.Goals as goal
 

@@ -1,7 +1,6 @@
 -- `steps::allocate::granted` meets its contract: by the choice and its position.
 -- Assumes nothing.
 use Rattle.steps.proofs.AllocateLaws.{grant_none, grant_blocked, grant_at, grant_never}
-use borrow.Author.Rules.{rules}
 use Rattle.steps.proofs.allocate.granted.Goals as goal
 
 pub returns-in_default : goal.returns-in_default

@@ -2,7 +2,6 @@
 -- Assumes nothing.
 use Rattle.steps.proofs.AllocateLaws.{part_read}
 use Rattle.split.proofs.SplitLaws.{got_rising}
-use borrow.Author.Rules.{rules}
 use Rattle.steps.proofs.allocate.partial_at.Goals as goal
 
 pub partial_place-requires : goal.partial_place-requires

@@ -1,7 +1,6 @@
 -- `steps::allocate::try_allocate_reg` meets its contract: by what is granted.
 -- Assumes nothing.
-use Rattle.steps.proofs.AllocateLaws.{tries_whole, tries_part, tries_none, parting_taking}
-use borrow.Author.Rules.{rules}
+use Rattle.steps.proofs.AllocateLaws.{tries_whole, tries_part, tries_none}
 use Rattle.steps.proofs.allocate.try_allocate_reg.Goals as goal
 
 pub returns-in-Whole : goal.returns-in-Whole

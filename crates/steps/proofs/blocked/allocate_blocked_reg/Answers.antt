@@ -1,7 +1,6 @@
 -- `steps::blocked::allocate_blocked_reg` meets its contract: no mention is a spill; a first use is contended for.
 -- Assumes nothing.
 use Rattle.steps.proofs.BlockedLaws.{unmentioned, mentioned}
-use borrow.Author.Rules.{rules}
 use Rattle.steps.proofs.blocked.allocate_blocked_reg.Goals as goal
 
 pub returns-in_default : goal.returns-in_default

@@ -2,7 +2,6 @@
 -- Assumes nothing.
 use Rattle.steps.proofs.BlockedLaws.{first_used}
 use Rattle.split.proofs.SplitLaws.{got_rising}
-use borrow.Author.Rules.{rules}
 use Rattle.steps.proofs.blocked.first_use.Goals as goal
 
 pub next_use-requires : goal.next_use-requires

@@ -2,7 +2,6 @@
 -- Assumes nothing.
 use Rattle.steps.proofs.TakingLaws.{clash, no_clash}
 use Rattle.split.proofs.SpillLaws.{of_rising}
-use borrow.Author.Rules.{rules}
 use Rattle.steps.proofs.taking.clash_or_cut.Goals as goal
 
 pub is_mention_point-requires : goal.is_mention_point-requires

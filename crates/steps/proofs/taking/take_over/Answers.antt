@@ -1,7 +1,6 @@
 -- `steps::taking::take_over` meets its contract: the register is taken, the piece cut, and the holder spilled.
 -- Assumes nothing.
 use Rattle.steps.proofs.TakingLaws.{over_holding, taken_over, over_off}
-use borrow.Author.Rules.{rules}
 use Rattle.steps.proofs.taking.take_over.Goals as goal
 
 pub spill_holder-requires : goal.spill_holder-requires

@@ -1,7 +1,6 @@
 -- `steps::weighing::weigh` meets its contract: the furthest position is compared with the first use.
 -- Assumes nothing.
 use Rattle.steps.proofs.WeighingLaws.{all_blocked, in_range, weighed_own, weighed_steal}
-use borrow.Author.Rules.{rules}
 use Rattle.steps.proofs.weighing.weigh.Goals as goal
 
 pub bounds-block-r : goal.bounds-block-r

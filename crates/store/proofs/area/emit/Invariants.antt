@@ -1,10 +1,7 @@
 -- `store::area::emit` meets its contract. The invariant: the first k records stand packed, the rest is as it was. The measure is what is left. Assumes nothing.
 use Prim.Native.Nat.{◌-◌}
-use native.Mathlib.Omega.{arith}
-use lib.ListN.{length-set}
 use Rattle.store.specs.StateOf.{state_of}
-use Rattle.store.proofs.AreaLaws.{Emitted, emitted_starts, emitted_more, emitted_ends}
-use borrow.Author.Rules.{rules}
+use Rattle.store.proofs.AreaLaws.{Emitted}
 use Rattle.store.proofs.area.emit.Given as goal
 
 abbrev pub invariant-loop-k : goal.invariant-loop-k

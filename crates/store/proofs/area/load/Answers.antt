@@ -1,8 +1,5 @@
 -- `store::area::load` meets its contract. The invariant: the state is the one where the first k of the records are queued. The measure is what is left. Assumes nothing.
-use Prim.Native.Nat.{◌-◌}
-use Rattle.words.specs.Packed.{interval_count}
-use Rattle.store.proofs.AreaLaws.{Queueing, queueing_starts, queueing_more, queueing_ends}
-use borrow.Author.Rules.{rules}
+use Rattle.store.proofs.AreaLaws.{queueing_starts, queueing_more, queueing_ends}
 use Rattle.store.proofs.area.load.Goals as goal
 
 pub loop-k-init : goal.loop-k-init

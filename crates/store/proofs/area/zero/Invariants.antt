@@ -1,7 +1,6 @@
 -- `store::area::zero` meets its contract. The invariant: the first i words are zero, the rest is as it was. The measure is what is left. Assumes nothing.
 use Prim.Native.Nat.{◌-◌, ◌*◌}
-use Rattle.store.proofs.AreaLaws.{Zeroed, zeroed_starts, zeroed_more, zeroed_ends}
-use borrow.Author.Rules.{rules}
+use Rattle.store.proofs.AreaLaws.{Zeroed}
 use Rattle.store.proofs.area.zero.Given as goal
 
 abbrev pub invariant-loop-i : goal.invariant-loop-i

@@ -1,6 +1,5 @@
 -- `store::cells::place_of` meets its contract: each return is a case of `place_of`. Assumes nothing.
 use Rattle.store.proofs.WordLaws.{place_register, place_slot, place_nowhere}
-use borrow.Author.Rules.{rules}
 use Rattle.store.proofs.cells.place_of.Goals as goal
 
 pub returns-then-kind-eq-IN_REGISTER : goal.returns-then-kind-eq-IN_REGISTER

@@ -2,7 +2,6 @@
 use native.Mathlib.Omega.{arith}
 use lib.ListN.{length-set}
 use Rattle.store.proofs.CellLaws.{piece_stored}
-use borrow.Author.Rules.{rules}
 use Rattle.store.proofs.cells.put_piece.Goals as goal
 
 pub bounds-work-b-2 : goal.bounds-work-b-2

@@ -1,7 +1,6 @@
 -- `uses::mentions::last_use` meets its contract: on a rising run the last mention with a point at or before p has the greatest of them.
 -- Assumes nothing.
-use Rattle.uses.proofs.WalkLaws.{run, Trailing, trailing_starts, trailing_more, trailing_found, trailing_ends}
-use borrow.Author.Rules.{rules}
+use Rattle.uses.proofs.WalkLaws.{run, Trailing}
 use Rattle.uses.proofs.mentions.last_use.Given as goal
 
 abbrev pub invariant-loop-n : goal.invariant-loop-n

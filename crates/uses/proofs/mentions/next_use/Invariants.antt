@@ -1,8 +1,7 @@
 -- `uses::mentions::next_use` meets its contract: on a rising run the first mention with a point at or after p has the least of them.
 -- Assumes nothing.
 use Prim.Native.Nat.{◌-◌}
-use Rattle.uses.proofs.WalkLaws.{run, Seeking, seeking_starts, seeking_more, seeking_found, seeking_ends}
-use borrow.Author.Rules.{rules}
+use Rattle.uses.proofs.WalkLaws.{run, Seeking}
 use Rattle.uses.proofs.mentions.next_use.Given as goal
 
 abbrev pub invariant-loop-n : goal.invariant-loop-n

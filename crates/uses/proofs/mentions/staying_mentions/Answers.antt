@@ -1,9 +1,6 @@
 -- `uses::mentions::staying_mentions` meets its contract: on a rising run the first mention that does not stay is the count.
 -- Assumes nothing.
-use Prim.Native.Nat.{◌-◌}
-use Rattle.uses.specs.Mentions.{stays_below}
-use Rattle.uses.proofs.WalkLaws.{run, Counting, counting_starts, counting_more, counting_stops, counting_ends, mentions_fall}
-use borrow.Author.Rules.{rules}
+use Rattle.uses.proofs.WalkLaws.{counting_starts, counting_more, counting_stops, counting_ends, mentions_fall}
 use Rattle.uses.proofs.mentions.staying_mentions.Goals as goal
 
 pub loop-n-init : goal.loop-n-init

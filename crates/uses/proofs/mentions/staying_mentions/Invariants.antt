@@ -2,8 +2,7 @@
 -- Assumes nothing.
 use Prim.Native.Nat.{◌-◌}
 use Rattle.uses.specs.Mentions.{stays_below}
-use Rattle.uses.proofs.WalkLaws.{run, Counting, counting_starts, counting_more, counting_stops, counting_ends, mentions_fall}
-use borrow.Author.Rules.{rules}
+use Rattle.uses.proofs.WalkLaws.{run, Counting}
 use Rattle.uses.proofs.mentions.staying_mentions.Given as goal
 
 abbrev pub invariant-loop-n : goal.invariant-loop-n

@@ -1,7 +1,6 @@
 -- `uses::mentions::stays` meets its contract: the first point of a mention decides.
 -- Assumes nothing.
 use Rattle.uses.proofs.MentionLaws.{stays_use, stays_def, stays_none}
-use borrow.Author.Rules.{rules}
 use Rattle.uses.proofs.mentions.stays.Goals as goal
 
 pub returns-then-at_use : goal.returns-then-at_use

@@ -1,7 +1,6 @@
 -- `uses::places::near_end` meets its contract: the Use before a, by whether a is a Use.
 -- Assumes nothing.
 use Rattle.uses.proofs.PlaceLaws.{near_end_none, near_end_use, near_end_def, def_positive}
-use borrow.Author.Rules.{rules}
 use Rattle.uses.proofs.places.near_end.Goals as goal
 
 pub returns-then-a-lt2 : goal.returns-then-a-lt2

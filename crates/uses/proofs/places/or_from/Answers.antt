@@ -1,7 +1,6 @@
 -- `uses::places::or_from` meets its contract: a candidate lies below, above or inside from..to.
 -- Assumes nothing.
 use Rattle.uses.proofs.PlaceLaws.{from_below, from_above, from_inside}
-use borrow.Author.Rules.{rules}
 use Rattle.uses.proofs.places.or_from.Goals as goal
 
 pub returns-then-p-from : goal.returns-then-p-from

@@ -1,7 +1,6 @@
 -- `uses::places::pick` meets its contract: one law for each strategy, and one more where a point has none before it.
 -- Assumes nothing.
 use Rattle.uses.proofs.PlaceLaws.{pick_from, pick_to, pick_next, pick_next_next, pick_mid, pick_no_prev, pick_prev, pick_no_prev_prev, pick_prev_prev}
-use borrow.Author.Rules.{rules}
 use Rattle.uses.proofs.places.pick.Goals as goal
 
 pub returns-in-From : goal.returns-in-From

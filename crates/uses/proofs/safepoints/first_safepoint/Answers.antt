@@ -2,7 +2,6 @@
 -- Assumes nothing.
 use Rattle.uses.proofs.SafepointLaws.{first_missing, first_is, first_fits}
 use Rattle.uses.proofs.SafepointLaws.{first_missing, first_is}
-use borrow.Author.Rules.{rules}
 use Rattle.uses.proofs.safepoints.first_safepoint.Goals as goal
 
 pub returns-then-range-eq0 : goal.returns-then-range-eq0

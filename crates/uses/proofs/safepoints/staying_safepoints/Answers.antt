@@ -1,9 +1,6 @@
 -- `uses::safepoints::staying_safepoints` meets its contract: the first safepoint that does not stay is the count.
 -- Assumes nothing.
-use Prim.Native.Nat.{◌-◌}
-use Rattle.uses.specs.Safepoints.{use_below}
-use Rattle.uses.proofs.WalkLaws.{run, Counting, counting_starts, counting_more, counting_stops, counting_ends, safepoints_fall}
-use borrow.Author.Rules.{rules}
+use Rattle.uses.proofs.WalkLaws.{counting_starts, counting_more, counting_stops, counting_ends, safepoints_fall}
 use Rattle.uses.proofs.safepoints.staying_safepoints.Goals as goal
 
 pub loop-n-init : goal.loop-n-init

@@ -2,8 +2,7 @@
 -- Assumes nothing.
 use Prim.Native.Nat.{◌-◌}
 use Rattle.uses.specs.Safepoints.{use_below}
-use Rattle.uses.proofs.WalkLaws.{run, Counting, counting_starts, counting_more, counting_stops, counting_ends, safepoints_fall}
-use borrow.Author.Rules.{rules}
+use Rattle.uses.proofs.WalkLaws.{run, Counting}
 use Rattle.uses.proofs.safepoints.staying_safepoints.Given as goal
 
 abbrev pub invariant-loop-n : goal.invariant-loop-n

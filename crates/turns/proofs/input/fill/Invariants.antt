@@ -1,5 +1,5 @@
 -- Each read adds bytes inside the lent ones.
-use Rattle.std.proofs.Common.{length, ◌-◌, ◌≤◌, ◌≡◌}
+use Rattle.std.proofs.Common.{length, ◌-◌, ◌≤◌}
 use Rattle.turns.proofs.input.fill.Given as goal
 
 abbrev pub invariant-loop-n : goal.invariant-loop-n

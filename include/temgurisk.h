@@ -1,6 +1,6 @@
 /* Temgurisk: the register step, and a checker of its results. The functions are proved; see docs/TRUST.md.
  *
- * Link target/staticlib/libtemgurisk.a, which `rt staticlib temgurisk` writes.
+ * Link target/staticlib/libtemgurisk.a, which `./archive` writes.
  *
  * A table is a pointer to its first word and the number of its words; of an empty table the pointer may be anything but
  * must be aligned and not null. The words of the tables, and the numbers and places of answers, are those of document 01;

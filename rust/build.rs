@@ -1,4 +1,4 @@
-//! Links the archive that `rt staticlib temgurisk` writes at the root of the repository.
+//! Links the archive that `./archive` writes at the root of the repository.
 
 use std::env;
 use std::path::PathBuf;
@@ -14,7 +14,7 @@ fn main() {
     println!("cargo:rerun-if-changed={}", archive.display());
     if !archive.is_file() {
         println!(
-            "cargo:warning={} is not there: run `rt staticlib temgurisk` at the root of the repository, then build again",
+            "cargo:warning={} is not there: run `./archive` at the root of the repository, then build again",
             archive.display()
         );
         return;

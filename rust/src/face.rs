@@ -142,7 +142,7 @@ pub fn check(t: Lent, words: &[u32], count: u32, total: u32) -> Answer {
 }
 
 #[cfg(not(archive))]
-const MISSING: &str = "the archive is missing: run `rt staticlib temgurisk` and build again";
+const MISSING: &str = "the archive is missing: run `./archive` and build again";
 
 /// Without the archive nothing can be asked.
 #[cfg(not(archive))]

@@ -50,7 +50,7 @@
 
 #[cfg(all(not(archive), not(test), not(feature = "archive-optional")))]
 compile_error!(
-    "the archive libtemgurisk.a is missing: run `rt staticlib temgurisk` at the root of the repository, then build again"
+    "the archive libtemgurisk.a is missing: run `./archive` at the root of the repository, then build again"
 );
 
 #[doc(hidden)]

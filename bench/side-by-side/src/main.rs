@@ -50,7 +50,7 @@ fn what(wanted: &Wanted) -> String {
     if port::AT_HAND {
         format!("{cases}, with their claims, module and archive")
     } else {
-        format!("{cases}, the module's builds alone (no archive: run `rt staticlib temgurisk`)")
+        format!("{cases}, the module's builds alone (no archive: run `./archive` at the root)")
     }
 }
 

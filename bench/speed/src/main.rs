@@ -72,7 +72,7 @@ fn caution(wanted: &Wanted) {
         println!("# the module runs on stand-ins for smallvec, log and rustc-hash: install Debian's librust-smallvec-dev, librust-log-dev and librust-rustc-hash-dev for times that count");
     }
     if !port::AT_HAND {
-        println!("# no archive (run `rt staticlib temgurisk`): only the module is timed");
+        println!("# no archive (run `./archive` at the root): only the module is timed");
     }
     if wanted.file.is_none() {
         println!("# the cases from real code are not at hand (name their folder in {VARIABLE}): only made-up programs are timed");

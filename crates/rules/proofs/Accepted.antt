@@ -21,7 +21,7 @@ use Rattle.rules.specs.declared.Check.TheVariants.{Fine, Refused}
 use Rattle.rules.specs.declared.Found.TheVariants.{Clean}
 use Rattle.rules.specs.Tables.{Tables}
 use Rattle.rules.specs.Uses.{at_def, points_in}
-use Rattle.rules.specs.Sound.{first, every, and_then, refuse_at, in_limits, check_limits, count_sum, scratch_good, class_good, bad_class, interval_good, bad_interval, ascends, mention_good, bad_mention, not_used_alone, safepoint_good, bad_safepoint, fragments_good, register_good, bad_fixed, check_tables}
+use Rattle.rules.specs.Sound.{every, and_then, refuse_at, in_limits, check_limits, count_sum, scratch_good, class_good, bad_class, interval_good, bad_interval, ascends, mention_good, bad_mention, not_used_alone, safepoint_good, bad_safepoint, fragments_good, register_good, bad_fixed, check_tables}
 use Rattle.rules.specs.Accepted.{InRange, mention, safepoint, interval, Limits, ClassSound, IntervalSound, MentionsSound, SafepointsSound, FixedSound, Accepted}
 use Rattle.rules.proofs.AcceptedLaws.{and_left, and_right, then_left, then_right, refuse_fine, else_left, first_clean, first_good, every_mem, every_at, part_long, part_at, all_ascend, count_within, fragment_ordered, fragment_below, fragments_ascend}
 

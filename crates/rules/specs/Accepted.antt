@@ -1,5 +1,5 @@
 -- A fact for proofs: what they want of tables that pass the checks 3 to 8 (document 01, "Sound"), as propositions. The checks are in Sound, and proofs/Accepted shows that they give this; it is less than they say.
-use Rattle.std.specs.Prelude.{ℕ, ◌+◌, ◌*◌, ◌≤◌, ◌<◌, ◌≡◌, Bool, true, length, get_or}
+use Rattle.std.specs.Prelude.{ℕ, ◌+◌, ◌*◌, ◌≤◌, ◌<◌, ◌≡◌, true, length, get_or}
 use mathlib.Core.List.{Memᴰ}
 use Rattle.words.specs.Points.{use_point}
 use Rattle.words.specs.Packed.{class_at, register_at, fragment_in, interval_at, interval_count, mention_in}

@@ -2,7 +2,7 @@
 -- Assumes nothing.
 use Prim.Native.Nat.{ℕ, zero, suc, ◌+◌, ◌-◌, ◌*◌, ◌≤◌, ◌<◌}
 use mathlib.Core.Path.{◌≡◌, refl, sym, ap, ◌∙◌}
-use mathlib.Core.Bool.{Bool, true, false, ◌&&◌, ◌||◌, not, and_true}
+use mathlib.Core.Bool.{Bool, true, false, ◌&&◌, ◌||◌, not, and-true}
 use mathlib.Core.List.{List, [], ◌∷◌, ◌++◌}
 use native.Mathlib.Nat.{not-suc-le-zero, le_of_suc-le-suc}
 use native.Mathlib.Omega.{arith}
@@ -123,7 +123,7 @@ fragment_followed limit ws f e a b h l g k = rw (g, k, between_more (f + 1) e ws
 
 pub fragment_last : (limit : ℕ) (ws : List ℕ) (f e : ℕ) (a : Fragment) → e ≤ f + 1 → a ≡ fragment_in (get_or ws f 0)
     → (leb a.first a.last && ltb a.last limit) ≡ fragment_good limit (get_or ws f 0) (between (f + 1) e ws)
-fragment_last limit ws f e a h g = rw (g, between_none (f + 1) e ws h) (sym (and_true _))
+fragment_last limit ws f e a h g = rw (g, between_none (f + 1) e ws h) (sym (and-true _))
 
 -- the walk of a register's fragments
 module _ (limit : ℕ) (ws : List ℕ) (lo hi : ℕ) where

@@ -1,4 +1,4 @@
-// The C face: the two calls, their slices as pointer and count, and the answer as four words. include/temgurisk.h declares it.
+// The two calls as C is to have them, the answer as four words. `temgurisk_c` exports them, and include/temgurisk.h declares them.
 #![tactic(auto)]
 
 ghost use Rattle.std.specs.Prelude.{◌≡◌};
@@ -63,8 +63,7 @@ pub fn reply_of(a: Answer) -> Reply
 }
 
 // `assign::call::assign`, which says what both areas hold afterwards.
-#[unsafe(no_mangle)]
-pub extern "C" fn temgurisk_assign(
+pub fn temgurisk_assign(
     strategy: u32,
     partial_split: bool,
     partial_split_near_end: bool,
@@ -98,8 +97,7 @@ pub extern "C" fn temgurisk_assign(
 }
 
 // `checker::check`, which writes nothing.
-#[unsafe(no_mangle)]
-pub extern "C" fn temgurisk_check(
+pub fn temgurisk_check(
     instructions: u32,
     classes: &[u32],
     registers: &[u32],

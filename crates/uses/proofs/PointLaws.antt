@@ -40,6 +40,7 @@ each_map P Q f [] a = tt
 each_map P Q f (x ∷ xs) a = (f x a.0, each_map P Q f xs a.1)
 
 pub each_mem : (P : ℕ → Type 0) (x : ℕ) (xs : List ℕ) → Each P xs → Memᴰ x xs → P x
+each_mem P x [] a x3 = elim x3 [ ]
 each_mem P x (y ∷ ys) a (Memᴰ.head e) = rw e a.0
 each_mem P x (y ∷ ys) a (Memᴰ.tail m) = each_mem P x ys a.1 m
 

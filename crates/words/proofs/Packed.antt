@@ -6,7 +6,7 @@ use mathlib.Core.Bool.{Bool, true, false}
 use native.Mathlib.Omega.{arith}
 use lib.Dec.{eqb}
 use Rattle.words.specs.Field.{join, bits, bit}
-use Rattle.words.specs.Packed.{class_in, class_word, ClassFits, range_in, range_word, fragment_in, fragment_word, interval_at, interval_row, kind_word, IntervalFits, mention_in, mention_word, MentionFits, record_in, record_row, RecordFits}
+use Rattle.words.specs.Packed.{class_in, class_word, ClassFits, range_in, range_word, fragment_in, fragment_word, interval_at, interval_row, kind_word, IntervalFits, mention_in, mention_word, MentionFits, record_in, RecordFits}
 use Rattle.words.specs.declared.Range.{Range}
 use Rattle.words.specs.declared.Class.{Class}
 use Rattle.words.specs.declared.Fragment.{Fragment}

@@ -1,6 +1,6 @@
 -- The laws of points: previous and next are exact.
 -- Assumes nothing.
-use Prim.Native.Nat.{ℕ, zero, suc, ◌+◌, ◌-◌, ◌<◌}
+use Prim.Native.Nat.{ℕ, zero, suc, ◌-◌}
 use mathlib.Core.Path.{◌≡◌, refl}
 use native.Mathlib.Numerals.{add-one, unary_clauses}
 use Rattle.words.specs.declared.Spot.TheVariants.{Nothing, Point}

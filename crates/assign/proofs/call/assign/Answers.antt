@@ -1,0 +1,17 @@
+-- `assign::call::assign` meets its contract: the strategy, the checks, then the run; what it answers after the checks is none of 2 to 9.
+-- Assumes nothing.
+use Rattle.assign.proofs.CallLaws.{unknown, turned_away, lets_in, let_in}
+use borrow.Author.Rules.{rules}
+use Rattle.assign.proofs.call.assign.Goals as goal
+
+pub returns-in_default : goal.returns-in_default
+returns-in_default c = search unknown
+
+pub returns-in-Refused : goal.returns-in-Refused
+returns-in-Refused c = search turned_away
+
+pub assign_checked-requires : goal.assign_checked-requires
+assign_checked-requires c = lets_in _ _ _ _ _ c.capacity_of-cap.ensures c.check.ensures c.in_default-check.is
+
+pub returns : goal.returns
+returns c = search let_in

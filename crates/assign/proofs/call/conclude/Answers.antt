@@ -1,0 +1,17 @@
+-- `assign::call::conclude` meets its contract: the records are those of the state at the end, and a refusal zeroes.
+-- Assumes nothing.
+use Rattle.assign.proofs.CallLaws.{done_ready, done_out, done_count, concludes_done, concludes_refused}
+use borrow.Author.Rules.{rules}
+use Rattle.assign.proofs.call.conclude.Goals as goal
+
+pub emit-requires : goal.emit-requires
+emit-requires c = record { ready = search done_ready; record_words_in_bounds = search done_out }
+
+pub overflow_cast-count : goal.overflow_cast-count
+overflow_cast-count c = search done_count
+
+pub returns-in-On : goal.returns-in-On
+returns-in-On c = search concludes_done
+
+pub returns-in-Off : goal.returns-in-Off
+returns-in-Off c = search concludes_refused

@@ -1,0 +1,11 @@
+-- `assign::entry::check` meets its contract: the tables first, then the room.
+-- Assumes nothing.
+use Rattle.assign.proofs.CallLaws.{check_refused, check_passed}
+use borrow.Author.Rules.{rules}
+use Rattle.assign.proofs.entry.check.Goals as goal
+
+pub returns-in-Refused : goal.returns-in-Refused
+returns-in-Refused c = search check_refused
+
+pub returns : goal.returns
+returns c = search check_passed

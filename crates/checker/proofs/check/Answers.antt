@@ -1,0 +1,24 @@
+-- `check` meets its contract: the claim is looked at first, then the tables, then the rules.
+-- Assumes nothing.
+use Rattle.checker.proofs.VerdictLaws.{over_count, over_words, tables_refused, answered}
+use Rattle.checker.proofs.ReadyLaws.{ready}
+use Rattle.rules.proofs.Accepted.{accepted}
+use mathlib.Core.Path.{sym, ◌∙◌}
+use native.Mathlib.Omega.{arith}
+use borrow.Author.Rules.{rules}
+use Rattle.checker.proofs.check.Goals as goal
+
+pub returns-then-count-gt-MOST_RECORDS : goal.returns-then-count-gt-MOST_RECORDS
+returns-then-count-gt-MOST_RECORDS c = over_count _ _ c.if-count-gt-MOST_RECORDS.true
+
+pub returns-then-words-records : goal.returns-then-words-records
+returns-then-words-records c = search over_words
+
+pub returns-in-Refused : goal.returns-in-Refused
+returns-in-Refused c = search tables_refused
+
+pub judge-verdict-requires : goal.judge-verdict-requires
+judge-verdict-requires c = ready _ (accepted _ (sym c.check_tables-checked.ensures ∙ c.in-Fine.is)) _ c.if-count-gt-MOST_RECORDS.false c.if-words-records.false (λ i. omega (arith, c.shared_slice_known-5-1.given i)) (λ i. omega (arith, c.shared_slice_known-3-1.given i))
+
+pub returns-in-Fine : goal.returns-in-Fine
+returns-in-Fine c = search answered

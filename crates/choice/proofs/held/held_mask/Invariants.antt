@@ -1,0 +1,12 @@
+-- `choice::held::held_mask` meets its contract: after the active records from `i` on have had their say, the bits are those of the registers that they hold.
+-- Assumes nothing.
+use Rattle.store.specs.StateOf.{state_of}
+use Rattle.choice.proofs.HoldingLaws.{Masked, mask_starts, mask_active, mask_past, mask_at, mask_ends, seat_bit}
+use borrow.Author.Rules.{rules}
+use Rattle.choice.proofs.held.held_mask.Given as goal
+
+abbrev pub invariant-loop-i : goal.invariant-loop-i
+invariant-loop-i l = Masked (state_of l.cap l.work l.counts) l.mask l.i
+
+abbrev pub decreases-loop-i : goal.decreases-loop-i
+decreases-loop-i l = l.i

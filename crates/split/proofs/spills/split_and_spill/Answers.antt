@@ -1,0 +1,14 @@
+-- `split::spills::split_and_spill` meets its contract: by the last use, as the rules say.
+-- Assumes nothing.
+use Rattle.split.proofs.SpillLaws.{of_rising, last_some, last_none}
+use borrow.Author.Rules.{rules}
+use Rattle.split.proofs.spills.split_and_spill.Goals as goal
+
+pub last_use-last-requires : goal.last_use-last-requires
+last_use-last-requires c = search of_rising
+
+pub returns-in-Point : goal.returns-in-Point
+returns-in-Point c = search last_some
+
+pub returns-in-Nothing : goal.returns-in-Nothing
+returns-in-Nothing c = search last_none

@@ -1,0 +1,7 @@
+-- `store::cells::piece_at` meets its contract: row k of the pieces is four words from k * 4 (`piece_got`). Assumes nothing.
+use Rattle.store.proofs.CellLaws.{piece_got}
+use borrow.Author.Rules.{rules}
+use Rattle.store.proofs.cells.piece_at.Goals as goal
+
+pub returns : goal.returns
+returns c = search piece_got

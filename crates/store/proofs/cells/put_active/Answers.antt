@@ -1,0 +1,7 @@
+-- `store::cells::put_active` meets its contract: no other list has this word (`active_put`). Assumes nothing.
+use Rattle.store.proofs.CellLaws.{active_put}
+use borrow.Author.Rules.{rules}
+use Rattle.store.proofs.cells.put_active.Goals as goal
+
+pub returns : goal.returns
+returns c = search active_put

@@ -1,0 +1,7 @@
+-- `store::state::append` meets its contract: a store just past the records in use is an append (`piece_appended`). Assumes nothing.
+use Rattle.store.proofs.StateLaws.{piece_appended}
+use borrow.Author.Rules.{rules}
+use Rattle.store.proofs.state.append.Goals as goal
+
+pub returns : goal.returns
+returns c = search piece_appended

@@ -1,0 +1,7 @@
+-- `store::state::pop` meets its contract: the key popped off the heap is the first of the queue, and names a record (`first_popped`). Assumes nothing.
+use Rattle.store.proofs.StateLaws.{first_popped}
+use borrow.Author.Rules.{rules}
+use Rattle.store.proofs.state.pop.Goals as goal
+
+pub returns : goal.returns
+returns c = search first_popped

@@ -1,0 +1,43 @@
+-- `tables::check::check_tables` meets its contract: each check hands on to the next or is the answer, and what the earlier ones found good is what the later ones ask.
+-- Assumes nothing.
+use Rattle.tables.proofs.OrderLaws.{in_order, few_instructions, few_classes, few_registers, few_intervals, few_mentions, few_safepoints, ranged, placed}
+use Rattle.tables.proofs.check.check_tables.Goals as goal
+
+pub returns-in-Refused : goal.returns-in-Refused
+returns-in-Refused c = search in_order depth 8
+
+pub bad_class-requires : goal.bad_class-requires
+bad_class-requires c = search few_classes
+
+pub returns-in-Bad : goal.returns-in-Bad
+returns-in-Bad c = search in_order depth 8
+
+pub bad_interval-requires : goal.bad_interval-requires
+bad_interval-requires c = (search few_instructions, search few_intervals)
+
+pub returns-in-Bad-bad_interval : goal.returns-in-Bad-bad_interval
+returns-in-Bad-bad_interval c = search in_order depth 8
+
+pub bad_mention-requires : goal.bad_mention-requires
+bad_mention-requires c = (search ranged, search few_mentions)
+
+pub returns-in-Bad-bad_mention : goal.returns-in-Bad-bad_mention
+returns-in-Bad-bad_mention c = search in_order depth 8
+
+pub bad_safepoint-requires : goal.bad_safepoint-requires
+bad_safepoint-requires c = (
+  (placed _ _ _ _ _ _ _ c.bad_interval.ensures c.in_default-bad_interval.is c.bad_mention.ensures c.in_default-bad_mention.is),
+  search few_safepoints,
+)
+
+pub returns-in-Bad-bad_safepoint : goal.returns-in-Bad-bad_safepoint
+returns-in-Bad-bad_safepoint c = search in_order depth 8
+
+pub bad_fixed-requires : goal.bad_fixed-requires
+bad_fixed-requires c = (search few_instructions, search few_registers)
+
+pub returns-in-Bad-bad_fixed : goal.returns-in-Bad-bad_fixed
+returns-in-Bad-bad_fixed c = search in_order depth 8
+
+pub returns : goal.returns
+returns c = search in_order depth 8

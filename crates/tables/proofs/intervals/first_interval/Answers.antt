@@ -1,0 +1,16 @@
+-- `tables::intervals::first_interval` meets its contract: the walk stops at the first bad interval.
+-- Assumes nothing.
+use Rattle.tables.proofs.WalkLaws.{whole_starts, walk_more, walk_stops, walk_ends, test_clean, test_bad}
+use Rattle.tables.proofs.intervals.first_interval.Goals as goal
+
+pub loop-v-init : goal.loop-v-init
+loop-v-init c = search whole_starts
+
+pub returns-then-not-interval_good : goal.returns-then-not-interval_good
+returns-then-not-interval_good c = search (walk_stops, test_bad)
+
+pub loop-v-preserved : goal.loop-v-preserved
+loop-v-preserved c = search (walk_more, test_clean)
+
+pub returns : goal.returns
+returns c = search walk_ends

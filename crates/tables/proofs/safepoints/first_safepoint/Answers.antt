@@ -1,0 +1,16 @@
+-- `tables::safepoints::first_safepoint` meets its contract: the walk stops at the first bad safepoint of the interval.
+-- Assumes nothing.
+use Rattle.tables.proofs.WalkLaws.{walk_starts, walk_more, walk_stops, walk_ends, test_clean, test_bad}
+use Rattle.tables.proofs.safepoints.first_safepoint.Goals as goal
+
+pub loop-j-init : goal.loop-j-init
+loop-j-init c = search walk_starts
+
+pub returns-then-not-safepoint_good : goal.returns-then-not-safepoint_good
+returns-then-not-safepoint_good c = search (walk_stops, test_bad)
+
+pub loop-j-preserved : goal.loop-j-preserved
+loop-j-preserved c = search (walk_more, test_clean)
+
+pub returns : goal.returns
+returns c = search walk_ends

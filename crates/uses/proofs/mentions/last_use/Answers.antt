@@ -1,0 +1,17 @@
+-- `uses::mentions::last_use` meets its contract: on a rising run the last mention with a point at or before p has the greatest of them.
+-- Assumes nothing.
+use Rattle.uses.proofs.WalkLaws.{run, Trailing, trailing_starts, trailing_more, trailing_found, trailing_ends}
+use borrow.Author.Rules.{rules}
+use Rattle.uses.proofs.mentions.last_use.Goals as goal
+
+pub loop-n-init : goal.loop-n-init
+loop-n-init c = search trailing_starts
+
+pub returns-in-Point : goal.returns-in-Point
+returns-in-Point c = search trailing_found
+
+pub loop-n-preserved : goal.loop-n-preserved
+loop-n-preserved c = search trailing_more
+
+pub returns : goal.returns
+returns c = search trailing_ends

@@ -1,0 +1,18 @@
+-- `uses::mentions::next_use` meets its contract: on a rising run the first mention with a point at or after p has the least of them.
+-- Assumes nothing.
+use Prim.Native.Nat.{◌-◌}
+use Rattle.uses.proofs.WalkLaws.{run, Seeking, seeking_starts, seeking_more, seeking_found, seeking_ends}
+use borrow.Author.Rules.{rules}
+use Rattle.uses.proofs.mentions.next_use.Goals as goal
+
+pub loop-n-init : goal.loop-n-init
+loop-n-init c = search seeking_starts
+
+pub returns-in-Point : goal.returns-in-Point
+returns-in-Point c = search seeking_found
+
+pub loop-n-preserved : goal.loop-n-preserved
+loop-n-preserved c = search seeking_more
+
+pub returns : goal.returns
+returns c = search seeking_ends

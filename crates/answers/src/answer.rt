@@ -2,9 +2,8 @@
 ghost use Rattle.std.specs.Prelude.{◌≤◌, length};
 ghost use Rattle.answers.specs.Lending.{Named};
 
-use crate::{Way, lent, show, sink, trouble};
+use crate::{STDOUT_FILENO, Way, lent, show, sink, trouble};
 use cases::{Case, Claim, Cursor, Key, What};
-use libc::STDOUT_FILENO;
 use temgurisk::Reply;
 
 // The claimed count and total stand before the claimed words.

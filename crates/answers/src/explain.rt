@@ -1,8 +1,7 @@
 // What an answer means, in a sentence.
 ghost use Rattle.std.specs.Prelude.{◌≤◌};
 
-use crate::sink;
-use libc::STDOUT_FILENO;
+use crate::{STDOUT_FILENO, sink};
 
 // The place of an answer that names none.
 const NOWHERE: u32 = 65535;

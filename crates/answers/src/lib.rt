@@ -1,13 +1,16 @@
 // A case answered: the assigner or the checker is asked, and a line says the answer, for a program or for a person. A case that cannot be read gets a line on standard error.
 #![tactic(auto)]
 
-
 pub mod answer;
 pub mod explain;
 mod lent;
 mod show;
 mod sink;
 pub mod trouble;
+
+const STDOUT_FILENO: i32 = 1;
+
+const STDERR_FILENO: i32 = 2;
 
 // What is done with each case.
 #[derive(Clone, Copy)]

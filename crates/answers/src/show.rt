@@ -1,6 +1,5 @@
 // An answer for a person: what became of the case, and where each record lies.
-use crate::{explain, sink};
-use libc::STDOUT_FILENO;
+use crate::{STDOUT_FILENO, explain, sink};
 use temgurisk::Reply;
 use words::Record;
 

@@ -13,7 +13,7 @@ pub(crate) fn flush(fd: i32, out: &[u8], at: usize) {
     let start = 0usize;
     let n = crate::lent::least(at, out.len());
     if !io::write_all(fd, &out[start..n]) {
-        io::write_all(libc::STDERR_FILENO, b"a line could not be written\n");
+        io::write_all(crate::STDERR_FILENO, b"a line could not be written\n");
     }
 }
 

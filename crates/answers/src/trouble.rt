@@ -1,9 +1,8 @@
 // A case that cannot be read: `NAME error line N: WHAT` on standard error.
 ghost use Rattle.std.specs.Prelude.{◌≤◌, length};
 
-use crate::sink;
+use crate::{STDERR_FILENO, sink};
 use cases::{Key, Span, What};
-use libc::STDERR_FILENO;
 
 fn put_key(out: &mut [u8], at: usize, key: Key) -> usize {
     match key {

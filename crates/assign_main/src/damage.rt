@@ -1,6 +1,5 @@
 // Damaged copies of done results, for the checker: each bit flipped, each pair of neighbouring bits flipped, a record dropped or doubled, a wrong total, no record at all, other words behind the claim.
 use crate::{calls, print};
-use std::num;
 use temgurisk::Reply;
 
 const BITS: usize = 32;
@@ -30,7 +29,7 @@ fn kind_of(r: Reply) -> usize {
 fn count_one(tally: &mut [u32], kind: usize) {
     if kind < tally.len() {
         let n = tally[kind];
-        tally[kind] = num::wrapping_add_u32(n, 1);
+        tally[kind] = n.wrapping_add(1);
     }
 }
 
@@ -79,7 +78,7 @@ fn flips(
     while b < masks {
         let kind = flipped(words, count, total, i, mask);
         count_one(tally, kind);
-        mask = num::wrapping_add_u32(mask, mask);
+        mask = mask.wrapping_add(mask);
         b += 1;
     }
 }
@@ -162,11 +161,11 @@ fn damaged(copy: usize, words: &mut [u32], count: u32, total: u32) -> Numbers {
         }
         1 => {
             print::text(b"  last record dropped");
-            n = num::wrapping_sub_u32(count, 1);
+            n = count.wrapping_sub(1);
         }
         2 => {
             print::text(b"  total one lower");
-            t = num::wrapping_sub_u32(total, 1);
+            t = total.wrapping_sub(1);
         }
         3 => {
             print::text(b"  no record");
@@ -179,7 +178,7 @@ fn damaged(copy: usize, words: &mut [u32], count: u32, total: u32) -> Numbers {
         }
         5 => {
             print::text(b"  first record doubled");
-            n = num::wrapping_add_u32(count, 1);
+            n = count.wrapping_add(1);
         }
         _ => {
             print::text(b"  last record broken");

@@ -1,5 +1,4 @@
 // Tables that are filled by steps: each row of four words is the one before plus a step, modulo 2^32.
-use std::num;
 
 // Four words in a row, as those of an interval.
 #[derive(Clone, Copy)]
@@ -7,7 +6,7 @@ pub(crate) struct Row(pub u32, pub u32, pub u32, pub u32);
 
 // The words moved up by one; the first one goes to the end, plus a step.
 fn turned(row: Row, step: u32) -> Row {
-    Row(row.1, row.2, row.3, num::wrapping_add_u32(row.0, step))
+    Row(row.1, row.2, row.3, row.0.wrapping_add(step))
 }
 
 pub(crate) fn rows(t: &mut [u32], first: Row, step: Row) {
@@ -24,11 +23,11 @@ pub(crate) fn rows(t: &mut [u32], first: Row, step: Row) {
 
 // Each word is the one before plus a step.
 pub(crate) fn words(t: &mut [u32], first: u32, step: u32) {
-    let second = num::wrapping_add_u32(first, step);
-    let two = num::wrapping_add_u32(step, step);
-    let four = num::wrapping_add_u32(two, two);
-    let third = num::wrapping_add_u32(first, two);
-    let fourth = num::wrapping_add_u32(second, two);
+    let second = first.wrapping_add(step);
+    let two = step.wrapping_add(step);
+    let four = two.wrapping_add(two);
+    let third = first.wrapping_add(two);
+    let fourth = second.wrapping_add(two);
     rows(
         t,
         Row(first, second, third, fourth),

@@ -1,5 +1,4 @@
 // A line of the output: label, number, place, count and total, and then words in hex, or their digest.
-use std::num;
 use temgurisk::Reply;
 
 const OUT: i32 = 1;
@@ -50,7 +49,7 @@ pub(crate) fn digest(t: &[u32]) -> u32 {
     let mut d = 0u32;
     let mut i = 0;
     while i < t.len() {
-        d = num::wrapping_add_u32(d << 1 | d >> 31, t[i]);
+        d = (d << 1 | d >> 31).wrapping_add(t[i]);
         i += 1;
     }
     d

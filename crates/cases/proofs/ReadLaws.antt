@@ -1,6 +1,6 @@
 -- How the reader moves on: from a case's first line to past its last.
 use mathlib.Core.Path.{◌≡◌, refl, sym, subst}
-use Prim.Native.Nat.{ℕ, ◌≤◌, ◌<◌}
+use Prim.Native.Nat.{ℕ, ◌≤◌}
 use native.Mathlib.Omega.{arith}
 use Rattle.cases.specs.Bounds.{Follows, Named, Titled}
 use Rattle.cases.specs.Parts.{Whole}

@@ -1,5 +1,5 @@
 -- Facts for contracts: what a reader of cases answers lies inside the text and inside the lent tables.
-use Rattle.std.specs.Prelude.{ℕ, ◌+◌, ◌≤◌, ◌<◌}
+use Rattle.std.specs.Prelude.{ℕ, ◌≤◌, ◌<◌}
 use Rattle.cases.specs.declared.Span.{Span}
 use Rattle.cases.specs.declared.Cursor.{Cursor}
 use Rattle.cases.specs.declared.Claim.{Claim}

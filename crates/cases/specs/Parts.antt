@@ -1,5 +1,5 @@
 -- Facts for contracts: what the parts of a case hold lies inside the text and inside the lent tables.
-use Rattle.std.specs.Prelude.{ℕ, ◌≤◌, ◌<◌}
+use Rattle.std.specs.Prelude.{ℕ, ◌≤◌}
 use Rattle.cases.specs.Bounds.{Within, ClaimFits}
 use Rattle.cases.specs.declared.Counts.{Counts}
 use Rattle.cases.specs.declared.body.Counted.{Counted}

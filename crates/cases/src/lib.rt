@@ -12,7 +12,6 @@
 // The lines stand in this order. `#` starts a comment; lines with nothing on them are passed over.
 #![tactic(auto)]
 
-
 mod body;
 mod keyed;
 mod lines;

@@ -14,8 +14,9 @@ pub fn put(out: &mut [u8], at: usize, bytes: &[u8]) -> usize
     if out.len() - at < bytes.len() {
         return at;
     }
-    let n = bytes::copy(bytes, &mut out[at..]);
-    at + n
+    let end = at + bytes.len();
+    out[at..end].copy_from_slice(bytes);
+    end
 }
 
 // A number in decimal.

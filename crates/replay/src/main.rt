@@ -1,7 +1,6 @@
 // Recorded answers, replayed: the cases of `stdin` are assigned, and what is written must be `stdout`. HOW.md says how the two were made.
 #![tactic(auto)]
 
-
-fn main() {
-    turns::run::answer_input(answers::Way::Assign);
+fn main(rt: HostRuntime) {
+    turns::run::answer_input(answers::Way::Assign, &mut rt.stdin());
 }

@@ -1,14 +1,21 @@
 // Tables as text on standard input, answers on standard output. `temgurisk_run` alone prints how to use it; crates/cases/src/lib.rt has the form of a case.
 #![tactic(auto)]
 
+ghost use Rattle.std.specs.Prelude.{◌≤◌, length};
+
 use answers::Way;
 use answers::explain::Said;
-use libc::STDERR_FILENO;
+use std::env::{Env, FillError};
+
+const STDERR_FILENO: i32 = 2;
 
 // How many words a command has, the program's own name among them.
 const ONE_WORD: usize = 2;
 
 const WITH_NUMBER_AND_PLACE: usize = 4;
+
+// More words than any command has.
+const MANY: usize = 5;
 
 // What the program's words ask for.
 #[derive(Clone, Copy)]
@@ -58,24 +65,45 @@ fn print_usage() {
     );
 }
 
-// An argument that is missing or too long is an empty word, which is no number.
-fn explain() {
+// How long the argument is that now stands at the start of the lent bytes. One that is missing or too long is an empty word.
+fn arg<R: Env>(rt: &R, i: usize, word: &mut [u8]) -> usize
+    ensures { result ≤ length word.new }
+{
+    match rt.arg(i, word) {
+        Ok(n) => n,
+        Err(_) => 0,
+    }
+}
+
+// How many words the command has. More than the longest command has are not told apart.
+fn arg_count<R: Env>(rt: &R) -> usize {
+    let mut word = [0u8; 16];
+    for i in 0..MANY {
+        if let Err(FillError::NotPresent) = rt.arg(i, &mut word) {
+            return i;
+        }
+    }
+    MANY
+}
+
+// An empty word is no number.
+fn explain<R: Env>(rt: &R) {
     let mut number = [0u8; 16];
-    let n = os::arg(2, &mut number);
+    let n = arg(rt, 2, &mut number);
     let mut place = [0u8; 16];
-    let m = os::arg(3, &mut place);
+    let m = arg(rt, 3, &mut place);
     match answers::explain::explain(&number[..n], &place[..m]) {
         Said::Sentence => {}
         Said::NotANumber => print_usage(),
     }
 }
 
-fn main() {
+fn main(rt: HostRuntime) {
     let mut word = [0u8; 16];
-    let n = os::arg(1, &mut word);
-    match command_of(&word[..n], os::arg_count()) {
-        Command::Cases(way) => turns::run::answer_input(way),
-        Command::Sentence => explain(),
+    let n = arg(&rt, 1, &mut word);
+    match command_of(&word[..n], arg_count(&rt)) {
+        Command::Cases(way) => turns::run::answer_input(way, &mut rt.stdin()),
+        Command::Sentence => explain(&rt),
         Command::Unknown => print_usage(),
     }
 }

@@ -1,8 +1,8 @@
-// Standard input, read whole into lent bytes.
+// The input, read whole into lent bytes.
 ghost use Rattle.std.specs.Prelude.{◌≤◌, length};
 ghost use Rattle.turns.specs.Turns.{Holds};
 
-use libc::STDIN_FILENO;
+use std::io::Read;
 
 // How many bytes came; or there is more than the lent bytes but one can hold; or a read failed.
 #[derive(Clone, Copy)]
@@ -13,16 +13,15 @@ pub(crate) enum Input {
 }
 
 // The last of the lent bytes is never used: once all are full, there may be more to come.
-pub(crate) fn fill(text: &mut [u8]) -> Input
+pub(crate) fn fill<R: Read>(from: &mut R, text: &mut [u8]) -> Input
     ensures { Holds (length text.old) result }
 {
     let mut n = 0;
     while n < text.len() {
-        let got = libc::read(STDIN_FILENO, &mut text[n..]);
-        if got < 0 {
-            return Input::Failed;
-        }
-        let more = io::count(got, &text[n..]);
+        let more = match from.read(&mut text[n..]) {
+            Ok(more) => more,
+            Err(_) => return Input::Failed,
+        };
         if more == 0 {
             return Input::Whole(n);
         }

@@ -1,8 +1,10 @@
-// The whole of it: standard input is read, and every case in it answered.
+// The whole of it: the input is read, and every case in it answered.
 use crate::input::Input;
 use crate::{each, input};
 use answers::Way;
-use libc::STDERR_FILENO;
+use std::io::Read;
+
+const STDERR_FILENO: i32 = 2;
 
 // The tables are one entry longer than their limits, so that a table over its limit can still be read and is answered 3.
 fn answer_text(way: Way, text: &[u8]) {
@@ -40,9 +42,9 @@ fn tell_failed() {
     io::write_all(STDERR_FILENO, b"the input could not be read\n");
 }
 
-// Reads standard input into the lent bytes. It has to leave the last of them free.
-fn answer_in(way: Way, text: &mut [u8]) {
-    match input::fill(text) {
+// Reads the input into the lent bytes. It has to leave the last of them free.
+fn answer_in<R: Read>(way: Way, from: &mut R, text: &mut [u8]) {
+    match input::fill(from, text) {
         Input::Whole(n) => {
             let start = 0usize;
             answer_text(way, &text[start..n]);
@@ -53,12 +55,12 @@ fn answer_in(way: Way, text: &mut [u8]) {
 }
 
 // The bytes as a slice, apart from where they are made: the prover runs out of stack where it meets four million zeros.
-fn answer_room(way: Way, text: &mut [u8; 4194305]) {
-    answer_in(way, text);
+fn answer_room<R: Read>(way: Way, from: &mut R, text: &mut [u8; 4194305]) {
+    answer_in(way, from, text);
 }
 
-// Answers every case of standard input, of at most 4,194,304 bytes. A longer one is refused whole.
-pub fn answer_input(way: Way) {
+// Answers every case of the input, which is standard input in the programs, of at most 4,194,304 bytes. A longer one is refused whole.
+pub fn answer_input<R: Read>(way: Way, from: &mut R) {
     let mut text = [0u8; 4194305];
-    answer_room(way, &mut text);
+    answer_room(way, from, &mut text);
 }

@@ -1,0 +1,9 @@
+-- A line that is empty leads to the next, which starts later.
+use Rattle.std.proofs.Common.{length, ◌-◌, ◌≤◌}
+use Rattle.cases.proofs.scan.next_line.Given as goal
+
+abbrev pub invariant-loop-at : goal.invariant-loop-at
+invariant-loop-at l = l.initial.at ≤ l.at
+
+abbrev pub decreases-loop-at : goal.decreases-loop-at
+decreases-loop-at l = length l.text - l.at

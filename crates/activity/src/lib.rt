@@ -113,7 +113,7 @@ fn update(
     *t = updated(*t, registers, fragments, first, count, start, active);
 }
 
-// By value again: the proof of a function that lends a struct is a walk, and with this one no caller needs another.
+// By value again: the tracker is lent to `update` and handed back.
 pub fn tracked(
     t: Tracker,
     registers: &[u32],

@@ -86,7 +86,7 @@ fn furthest_in(s: &[RegPos], scratch: usize, start: Choice) -> Choice
     best
 }
 
-// By value again: the proof of a function that lends structs is a walk, and with this one no caller needs another.
+// By value: the entries are lent to `furthest_in`.
 fn furthest_lent(entries: [RegPos; 4], scratch: usize, start: Choice) -> Choice
     ensures { result ≡ furthest_entry entries scratch 0 4 start }
 {

@@ -52,7 +52,7 @@ module _ (g : Given) where
   abbrev pub UntilOk : State → ℕ → ℕ → Type 0
   UntilOk s k f = f ≢ (piece s k).start → SplitOk s k f × Good (λ t. SpillOk t k) (split_and_queue g s k f)
 
-  -- beside cutAt and cut_before
+  -- beside cut_at and cut_before
   abbrev pub CutAtOk : State → ℕ → ℕ → Spot → Type 0
   CutAtOk s k b (Point p) = SplitOk s k p
   CutAtOk s k b Nothing = SpillAtOk s k b

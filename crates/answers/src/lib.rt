@@ -8,9 +8,10 @@ mod show;
 mod sink;
 pub mod trouble;
 
-const STDOUT_FILENO: i32 = 1;
+// Where answers go, and where it is told what went wrong.
+pub const STDOUT_FILENO: i32 = 1;
 
-const STDERR_FILENO: i32 = 2;
+pub const STDERR_FILENO: i32 = 2;
 
 // What is done with each case.
 #[derive(Clone, Copy)]

@@ -3,11 +3,9 @@
 
 ghost use Rattle.std.specs.Prelude.{◌≤◌, length};
 
-use answers::Way;
 use answers::explain::Said;
+use answers::{STDERR_FILENO, Way};
 use std::env::{Env, FillError};
-
-const STDERR_FILENO: i32 = 2;
 
 // How many words a command has, the program's own name among them.
 const ONE_WORD: usize = 2;

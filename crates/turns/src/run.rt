@@ -1,10 +1,8 @@
 // The whole of it: the input is read, and every case in it answered.
 use crate::input::Input;
 use crate::{each, input};
-use answers::Way;
+use answers::{STDERR_FILENO, Way};
 use std::io::Read;
-
-const STDERR_FILENO: i32 = 2;
 
 // The tables are one entry longer than their limits, so that a table over its limit can still be read and is answered 3.
 fn answer_text(way: Way, text: &[u8]) {

@@ -1,5 +1,6 @@
 -- The call: the strategy by its number, the room, the checks by their cases, and the end of a run written out.
 -- Assumes nothing.
+use Rattle.std.specs.Prelude.{Option, None, Some}
 use Prim.Native.Nat.{ℕ, ◌+◌, ◌*◌, ◌≤◌, ◌<◌}
 use mathlib.Core.Path.{◌≡◌, refl, sym, ap, ◌∙◌}
 use mathlib.Core.Bool.{Bool, true, false, ◌||◌}
@@ -14,8 +15,6 @@ use Rattle.words.specs.Choose.{choose}
 use Rattle.words.specs.Packed.{interval_count, record_words}
 use Rattle.rules.specs.declared.Answer.{Answer}
 use Rattle.rules.specs.declared.Answer.TheVariants.{Done, BadStrategy, NoRoom}
-use Rattle.rules.specs.declared.Asked.{Asked}
-use Rattle.rules.specs.declared.Asked.TheVariants.{Unknown, Known}
 use Rattle.rules.specs.declared.Check.{Check}
 use Rattle.rules.specs.declared.Check.TheVariants.{Fine, Refused}
 use Rattle.rules.specs.declared.Mode.{Mode}
@@ -41,10 +40,10 @@ use Rattle.tables.specs.Given.{tables}
 use Rattle.assign.specs.Calling.{options, Allowed, Begun, Ran, Ends, done, refused, Closing, Concluded}
 
 -- ---- the strategy: what a number that is m names, and a number that is none of the seven
-pub named : (n m : ℕ) (a : Asked) → n ≡ m → a ≡ strategy_of m → a ≡ strategy_of n
+pub named : (n m : ℕ) (a : Option Strategy) → n ≡ m → a ≡ strategy_of m → a ≡ strategy_of n
 named n m a e f = f ∙ ap strategy_of (sym e)
 
-pub unnamed : (n : ℕ) → (n ≡ 1 → ⊥) → (n ≡ 2 → ⊥) → (n ≡ 3 → ⊥) → (n ≡ 4 → ⊥) → (n ≡ 5 → ⊥) → (n ≡ 6 → ⊥) → (n ≡ 7 → ⊥) → Unknown ≡ strategy_of n
+pub unnamed : (n : ℕ) → (n ≡ 1 → ⊥) → (n ≡ 2 → ⊥) → (n ≡ 3 → ⊥) → (n ≡ 4 → ⊥) → (n ≡ 5 → ⊥) → (n ≡ 6 → ⊥) → (n ≡ 7 → ⊥) → None ≡ strategy_of n
 unnamed n a b c d e f g = simp (ne_eqb _ _ a, ne_eqb _ _ b, ne_eqb _ _ c, ne_eqb _ _ d, ne_eqb _ _ e, ne_eqb _ _ f, ne_eqb _ _ g)
 
 -- ---- 3 to 8, then 9
@@ -144,15 +143,15 @@ lets_in T out ws cap k c d g =
     let b = room_passed (interval_count T.intervals) cap (length ws) (then_right (check_tables T) (check_room (interval_count T.intervals) cap (length ws)) (sym d ∙ g)) in
     record { checked = record { sound = accepted T (then_left (check_tables T) _ (sym d ∙ g)); most = omega (arith, c); long = omega (arith, b.1); inside = b.0 }; is = c }
 
-module _ (n : ℕ) (p e : Bool) (T : Tables) (out ws : List ℕ) (q : Asked) (s : q ≡ strategy_of n) where
+module _ (n : ℕ) (p e : Bool) (T : Tables) (out ws : List ℕ) (q : Option Strategy) (s : q ≡ strategy_of n) where
   -- 2
-  pub unknown : q ≡ Unknown → Assigned (options n p e) T out out ws ws BadStrategy
+  pub unknown : q ≡ None → Assigned (options n p e) T out out ws ws BadStrategy
   unfolding assign assign_by
   unknown f =
       let b : assign (options n p e) T out (length ws) ≡ record { answer = BadStrategy; leaves = out } = ap (assign_by (options n p e) T out (length ws)) (sym s ∙ f) in
       record { answers = sym (ap (λ (x : Result). x.answer) b); leaves = sym (ap (λ (x : Result). x.leaves) b); keeps = λ l h. refl }
 
-  module _ (y : Strategy) (f : q ≡ Known y) (cap : ℕ) (c : cap ≡ capacity out) (k : Check) (d : k ≡ check T cap (length ws)) where
+  module _ (y : Strategy) (f : q ≡ Some y) (cap : ℕ) (c : cap ≡ capacity out) (k : Check) (d : k ≡ check T cap (length ws)) where
     abbrev ends : Result
     ends = finish (run_for (mode_of y (options n p e)) T cap) out
 

@@ -5,7 +5,7 @@ ghost use Rattle.tables.specs.Given.{tables};
 ghost use Rattle.assign.specs.Calling.{options, Allowed, Closing, Concluded};
 
 use crate::{entry, run};
-use rules::{Answer, Asked, Check, Mode};
+use rules::{Answer, Check, Mode};
 use split::Turn;
 use store::area;
 
@@ -81,7 +81,7 @@ pub fn assign(
 ) -> Answer
     ensures { Assigned (options strategy partial_split partial_split_near_end) (tables instructions classes.now registers.now fragments.now intervals.now mentions.now safepoints.now) res.old res.new work.old work.new result }
 {
-    let Asked::Known(known) = entry::strategy_of(strategy) else {
+    let Some(known) = entry::strategy_of(strategy) else {
         return Answer::BadStrategy;
     };
     let cap = entry::capacity_of(res);

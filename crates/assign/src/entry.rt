@@ -5,7 +5,7 @@ ghost use Rattle.rules.specs.Room.{capacity, strategy_of, check_room};
 ghost use Rattle.rules.specs.Call.{check as checkOf};
 ghost use Rattle.tables.specs.Given.{tables};
 
-use rules::{Answer, Asked, Check, Strategy};
+use rules::{Answer, Check, Strategy};
 use tables::check;
 
 const RECORD_WORDS: usize = 2;
@@ -19,18 +19,18 @@ const WORK_WORDS: usize = 8;
 
 const WORK_BESIDES: usize = 256;
 
-pub(crate) fn strategy_of(n: u32) -> Asked
+pub(crate) fn strategy_of(n: u32) -> Option<Strategy>
     ensures { result ≡ strategy_of n }
 {
     match n {
-        1 => Asked::Known(Strategy::From),
-        2 => Asked::Known(Strategy::To),
-        3 => Asked::Known(Strategy::NextFrom),
-        4 => Asked::Known(Strategy::NextNextFrom),
-        5 => Asked::Known(Strategy::Mid),
-        6 => Asked::Known(Strategy::PrevTo),
-        7 => Asked::Known(Strategy::PrevPrevTo),
-        _ => Asked::Unknown,
+        1 => Some(Strategy::From),
+        2 => Some(Strategy::To),
+        3 => Some(Strategy::NextFrom),
+        4 => Some(Strategy::NextNextFrom),
+        5 => Some(Strategy::Mid),
+        6 => Some(Strategy::PrevTo),
+        7 => Some(Strategy::PrevPrevTo),
+        _ => None,
     }
 }
 

@@ -1,4 +1,5 @@
 -- A class's row by its holders, filled from the last active record to the first. Assumes nothing.
+use Rattle.std.specs.Prelude.{Option, None, Some}
 use Prim.Native.Nat.{ℕ, ◌+◌, ◌-◌, ◌*◌, ◌≤◌, ◌<◌}
 use mathlib.Core.Path.{◌≡◌, refl, sym, ap, subst, ◌∙◌}
 use mathlib.Core.Bool.{Bool, true, false, ◌||◌}
@@ -15,15 +16,11 @@ use borrow.Author.Tests.{le-leb, lt-leb, lt-ltb, le-ltb, eq-eqb, ne_eqb}
 use Rattle.words.specs.Choose.{choose}
 use Rattle.words.specs.declared.Range.{Range}
 use Rattle.words.specs.Packed.{part, range_in, register_at}
-use Rattle.words.specs.declared.Spot.{Spot}
-use Rattle.words.specs.declared.Spot.TheVariants.{Nothing, Point}
 use Rattle.rules.specs.declared.Piece.{Piece}
 use Rattle.rules.specs.declared.Place.{Place}
 use Rattle.rules.specs.declared.Place.TheVariants.{Nowhere, Register, Slot}
 use Rattle.rules.specs.declared.Pos.{Pos}
 use Rattle.rules.specs.declared.Pos.TheVariants.{Blocked, At, Never}
-use Rattle.rules.specs.declared.Holder.{Holder}
-use Rattle.rules.specs.declared.Holder.TheVariants.{Free, Held}
 use Rattle.rules.specs.Positions.{lower_of}
 use Rattle.rules.specs.State.{Given, State, piece, fragments_of}
 use Rattle.rules.specs.Steps.{is_register, holder_in, holder, is_held, fixed_active, first_start, free_until, next_use_pos, next_use_of, pos_of_use}
@@ -39,30 +36,28 @@ use Rattle.activity.specs.Cursors.{Facing}
 use Rattle.activity.proofs.BitLaws.{no_bit}
 use Rattle.activity.proofs.CursorLaws.{facing_faced}
 use Rattle.activity.proofs.FixedLaws.{says_none}
-use Rattle.choice.specs.declared.Seat.{Seat}
-use Rattle.choice.specs.declared.Seat.TheVariants.{Outside, Inside}
 use Rattle.choice.specs.Row.{pos_in, FixedRow}
 use Rattle.choice.specs.Holding.{seat_of, use_of, next_pos, HolderRow, HeldMask, OpenRow, UnfixedRow, Runs, FreeRow, NextRow}
 
 -- ---- seats
-pub seat_nowhere : (place : Place) (first stop : ℕ) → place ≡ Nowhere → Outside ≡ seat_of first stop place
+pub seat_nowhere : (place : Place) (first stop : ℕ) → place ≡ Nowhere → None ≡ seat_of first stop place
 unfolding seat_of
 seat_nowhere place first stop e = simp e
 
-pub seat_slot : (place : Place) (t first stop : ℕ) → place ≡ Slot t → Outside ≡ seat_of first stop place
+pub seat_slot : (place : Place) (t first stop : ℕ) → place ≡ Slot t → None ≡ seat_of first stop place
 unfolding seat_of
 seat_slot place t first stop e = simp e
 
 module _ {place : Place} {x : ℕ} (e : place ≡ Register x) (first stop : ℕ) where
-  pub seat_below : x < first → Outside ≡ seat_of first stop place
+  pub seat_below : x < first → None ≡ seat_of first stop place
   unfolding seat_of
   seat_below h = simp (e, lt-leb first x h)
 
-  pub seat_inside : first ≤ x → x < stop → Inside x ≡ seat_of first stop place
+  pub seat_inside : first ≤ x → x < stop → Some x ≡ seat_of first stop place
   unfolding seat_of
   seat_inside h l = simp (e, le-leb first x h, lt-ltb x stop l)
 
-  pub seat_above : first ≤ x → stop ≤ x → Outside ≡ seat_of first stop place
+  pub seat_above : first ≤ x → stop ≤ x → None ≡ seat_of first stop place
   unfolding seat_of
   seat_above h l = simp (e, le-leb first x h, le-ltb x stop l)
 
@@ -72,47 +67,47 @@ record Sits (first stop : ℕ) (place : Place) (r : ℕ) : Type 0 where
   high : r < stop
   register : place ≡ Register r
 
-sits : (first stop : ℕ) (place : Place) (r : ℕ) → Inside r ≡ seat_of first stop place → Sits first stop place r
+sits : (first stop : ℕ) (place : Place) (r : ℕ) → Some r ≡ seat_of first stop place → Sits first stop place r
 unfolding seat_of
 sits first stop Nowhere r e = absurd (let z : ◌≡◌ {A = ℕ} 0 1 = cc in omega arith)
 sits first stop (Slot t) r e = absurd (let z : ◌≡◌ {A = ℕ} 0 1 = cc in omega arith)
 sits first stop (Register x) r e = go (dec_le first x) (dec_lt x stop)
   where
     go : Dec (first ≤ x) → Dec (x < stop) → Sits first stop (Register x) r
-    go (yes a) (yes b) = let f : Inside r ≡ Inside x = e ∙ simp (le-leb first x a, lt-ltb x stop b) in let q : x ≡ r = cc in record { low = omega arith; high = omega arith; register = rw q }
-    go (yes a) (no b) = let f : Inside r ≡ Outside = e ∙ simp (le-leb first x a, le-ltb x stop (omega arith)) in absurd (let z : ◌≡◌ {A = ℕ} 0 1 = cc in omega arith)
-    go (no a) b = let f : Inside r ≡ Outside = e ∙ simp (lt-leb first x (omega arith)) in absurd (let z : ◌≡◌ {A = ℕ} 0 1 = cc in omega arith)
+    go (yes a) (yes b) = let f : Some r ≡ Some x = e ∙ simp (le-leb first x a, lt-ltb x stop b) in let q : x ≡ r = cc in record { low = omega arith; high = omega arith; register = rw q }
+    go (yes a) (no b) = let f : Some r ≡ None = e ∙ simp (le-leb first x a, le-ltb x stop (omega arith)) in absurd (let z : ◌≡◌ {A = ℕ} 0 1 = cc in omega arith)
+    go (no a) b = let f : Some r ≡ None = e ∙ simp (lt-leb first x (omega arith)) in absurd (let z : ◌≡◌ {A = ℕ} 0 1 = cc in omega arith)
 
 -- so it has an entry in the row
-pub seat_fits : (first count : ℕ) (place : Place) (seat : Seat) (r : ℕ) → first + count ≤ 64 → seat ≡ seat_of first (first + count) place → seat ≡ Inside r → r < 64
+pub seat_fits : (first count : ℕ) (place : Place) (seat : Option ℕ) (r : ℕ) → first + count ≤ 64 → seat ≡ seat_of first (first + count) place → seat ≡ Some r → r < 64
 seat_fits first count place seat r h e f = omega (arith, (sits first (first + count) place r (sym f ∙ e)).high)
 
 -- of 4 bytes
-pub seat_span : (first count : ℕ) (place : Place) (seat : Seat) (r : ℕ) → first + count ≤ 64 → seat ≡ seat_of first (first + count) place → seat ≡ Inside r → Fits w64 (r * 4)
+pub seat_span : (first count : ℕ) (place : Place) (seat : Option ℕ) (r : ℕ) → first + count ≤ 64 → seat ≡ seat_of first (first + count) place → seat ≡ Some r → Fits w64 (r * 4)
 seat_span first count place seat r h e f = let l : r < 64 = seat_fits first count place seat r h e f in omega arith
 
 -- a register of first..stop is not that of a place whose seat is outside
-stands_off : (first stop : ℕ) (place : Place) (r : ℕ) → Outside ≡ seat_of first stop place → first ≤ r → r < stop → is_register r place ≡ false
+stands_off : (first stop : ℕ) (place : Place) (r : ℕ) → None ≡ seat_of first stop place → first ≤ r → r < stop → is_register r place ≡ false
 unfolding seat_of
 stands_off first stop Nowhere r e a b = refl
 stands_off first stop (Slot t) r e a b = refl
-stands_off first stop (Register x) r e a b = ne_eqb x r (λ q. absurd (let f : Outside ≡ Inside x = e ∙ simp (le-leb first x (omega arith), lt-ltb x stop (omega arith)) in let z : ◌≡◌ {A = ℕ} 0 1 = cc in omega arith))
+stands_off first stop (Register x) r e a b = ne_eqb x r (λ q. absurd (let f : None ≡ Some x = e ∙ simp (le-leb first x (omega arith), lt-ltb x stop (omega arith)) in let z : ◌≡◌ {A = ℕ} 0 1 = cc in omega arith))
 
 -- ---- the walk
 -- the active records from i on have had their say
-pub record Holding (F : ℕ → Holder → Pos) (s : State) (first stop : ℕ) (b : List Pos) (i : ℕ) : Type 0 where
+pub record Holding (F : ℕ → Option ℕ → Pos) (s : State) (first stop : ℕ) (b : List Pos) (i : ℕ) : Type 0 where
   pub is : (r : ℕ) → first ≤ r → r < stop → pos_in b r ≡ F r (holder_in s r (drop i s.active))
   pub long : length b ≡ 64
   pub upto : i ≤ length s.active
 
-module _ (F : ℕ → Holder → Pos) (s : State) (first stop : ℕ) (b : List Pos) where
-  holding_starts : length b ≡ 64 → ((r : ℕ) → pos_in b r ≡ F r Free) → Holding F s first stop b (length s.active)
+module _ (F : ℕ → Option ℕ → Pos) (s : State) (first stop : ℕ) (b : List Pos) where
+  holding_starts : length b ≡ 64 → ((r : ℕ) → pos_in b r ≡ F r None) → Holding F s first stop b (length s.active)
   unfolding holder_in
   holding_starts l f = record { is = λ r a h. rw drop-length (f r); long = l; upto = omega arith }
 
   module _ (i : ℕ) (h : Holding F s first stop b (i + 1)) where
     -- record j is next, and it is in no register of the class
-    holding_past : (q : Piece) → q ≡ piece s (get_or s.active i 0) → Outside ≡ seat_of first stop q.place → Holding F s first stop b i
+    holding_past : (q : Piece) → q ≡ piece s (get_or s.active i 0) → None ≡ seat_of first stop q.place → Holding F s first stop b i
     unfolding holder_in
     holding_past q e o =
         record {
@@ -123,7 +118,7 @@ module _ (F : ℕ → Holder → Pos) (s : State) (first stop : ℕ) (b : List P
         }
 
     -- or in register x, which it holds
-    holding_at : (q : Piece) → q ≡ piece s (get_or s.active i 0) → (x : ℕ) → Sits first stop q.place x → x < 64 → (v : Pos) → v ≡ F x (Held (get_or s.active i 0))
+    holding_at : (q : Piece) → q ≡ piece s (get_or s.active i 0) → (x : ℕ) → Sits first stop q.place x → x < 64 → (v : Pos) → v ≡ F x (Some (get_or s.active i 0))
         → Holding F s first stop (set b x v) i
     unfolding holder_in
     holding_at q e x t m v f =
@@ -143,7 +138,7 @@ module _ (F : ℕ → Holder → Pos) (s : State) (first stop : ℕ) (b : List P
   holding_ends count i e l h = let z : i ≡ 0 = omega arith in record { is = λ r a m. rw z at (h.is r a (omega arith)) }
 
 -- the walk as the code has it: the state lies in the work area, and i is counted down before it is read
-module _ (F : ℕ → Holder → Pos) (cap : ℕ) (ws : List ℕ) (c : Counts) (first count : ℕ) (b : List Pos) where
+module _ (F : ℕ → Option ℕ → Pos) (cap : ℕ) (ws : List ℕ) (c : Counts) (first count : ℕ) (b : List Pos) where
   module _ (i : ℕ) (h : Holding F (state_of cap ws c) first (first + count) b i) (p : 0 < i) (y : Ready cap ws c) where
     pub walk_active : i - 1 < c.active
     walk_active = omega (arith, h.upto, active_are cap ws c y)
@@ -151,20 +146,20 @@ module _ (F : ℕ → Holder → Pos) (cap : ℕ) (ws : List ℕ) (c : Counts) (
     one_more : i - 1 + 1 ≡ i
     one_more = omega arith
 
-    module _ (j : ℕ) (g : GotActive cap ws c (i - 1) j) (q : Piece) (k : Got cap ws c j q) (seat : Seat) (o : seat ≡ seat_of first (first + count) q.place) where
+    module _ (j : ℕ) (g : GotActive cap ws c (i - 1) j) (q : Piece) (k : Got cap ws c j q) (seat : Option ℕ) (o : seat ≡ seat_of first (first + count) q.place) where
       walk_piece : q ≡ piece (state_of cap ws c) (get_or (state_of cap ws c).active (i - 1) 0)
       walk_piece = rw (sym g.is) k.is
 
       -- the piece is in no register of the class
-      pub walk_past : seat ≡ Outside → Holding F (state_of cap ws c) first (first + count) b (i - 1)
+      pub walk_past : seat ≡ None → Holding F (state_of cap ws c) first (first + count) b (i - 1)
       walk_past e = holding_past F (state_of cap ws c) first (first + count) b (i - 1) (rw one_more h) q walk_piece (sym e ∙ o)
 
       -- or in register r
-      module _ (r : ℕ) (e : seat ≡ Inside r) where
+      module _ (r : ℕ) (e : seat ≡ Some r) where
         walk_sits : Sits first (first + count) q.place r
         walk_sits = sits first (first + count) q.place r (sym e ∙ o)
 
-        pub walk_at : first + count ≤ 64 → (v : Pos) → v ≡ F r (Held j) → Holding F (state_of cap ws c) first (first + count) (set b r v) (i - 1)
+        pub walk_at : first + count ≤ 64 → (v : Pos) → v ≡ F r (Some j) → Holding F (state_of cap ws c) first (first + count) (set b r v) (i - 1)
         walk_at m v f =
             holding_at F (state_of cap ws c) first (first + count) b (i - 1) (rw one_more h) q walk_piece r walk_sits (omega (arith, walk_sits.high)) v (rw g.is at f)
 
@@ -191,12 +186,12 @@ module _ (cap : ℕ) (ws : List ℕ) (c : Counts) where
     next : drop (i - 1) (state_of cap ws c).active ≡ get_or (state_of cap ws c).active (i - 1) 0 ∷ drop i (state_of cap ws c).active
     next = let e : i - 1 + 1 ≡ i = omega arith in rw (drop-cons (state_of cap ws c).active (i - 1) 0 (omega (arith, h.upto)), sym (add-one (i - 1)), e) refl
 
-    module _ (j : ℕ) (g : GotActive cap ws c (i - 1) j) (q : Piece) (k : Got cap ws c j q) (seat : Seat) (o : seat ≡ seat_of 0 64 q.place) where
+    module _ (j : ℕ) (g : GotActive cap ws c (i - 1) j) (q : Piece) (k : Got cap ws c j q) (seat : Option ℕ) (o : seat ≡ seat_of 0 64 q.place) where
       mask_piece : q ≡ piece (state_of cap ws c) (get_or (state_of cap ws c).active (i - 1) 0)
       mask_piece = rw (sym g.is) k.is
 
       -- the piece is in no register
-      pub mask_past : seat ≡ Outside → Masked (state_of cap ws c) m (i - 1)
+      pub mask_past : seat ≡ None → Masked (state_of cap ws c) m (i - 1)
       unfolding holder_in
       mask_past e =
           record {
@@ -205,7 +200,7 @@ module _ (cap : ℕ) (ws : List ℕ) (c : Counts) where
           }
 
       -- or in register x, which is held
-      pub mask_at : (x : ℕ) → seat ≡ Inside x → (n : ℕ) → WithBit m x n → Masked (state_of cap ws c) n (i - 1)
+      pub mask_at : (x : ℕ) → seat ≡ Some x → (n : ℕ) → WithBit m x n → Masked (state_of cap ws c) n (i - 1)
       unfolding holder_in
       mask_at x e n w = record { is = λ r l. w.is r l ∙ at r l (ℕ_discrete x r); upto = omega (arith, h.upto) }
         where
@@ -224,7 +219,7 @@ module _ (cap : ℕ) (ws : List ℕ) (c : Counts) where
   mask_ends m i l h = let z : i ≡ 0 = omega arith in record { is = λ r a. rw z at (h.is r a) }
 
 -- a register has a bit
-pub seat_bit : (place : Place) (seat : Seat) (r : ℕ) → seat ≡ seat_of 0 64 place → seat ≡ Inside r → r < 64
+pub seat_bit : (place : Place) (seat : Option ℕ) (r : ℕ) → seat ≡ seat_of 0 64 place → seat ≡ Some r → r < 64
 seat_bit place seat r e f = (sits 0 64 place r (sym f ∙ e)).high
 
 -- ---- free-until: a held register is blocked, the others are as their fragments say
@@ -305,7 +300,7 @@ next_starts cap ws c first stop row ms S y l =
 
 module _ (cap : ℕ) (ws : List ℕ) (c : Counts) (j : ℕ) (q : Piece) (k : Got cap ws c j q) (ms : List ℕ) where
   pub next_used : (S : ℕ) (u v : Pos) (row : List Pos) (r : ℕ) → u ≡ pos_of_use (next_use S (mention_points (part q.mentions ms))) → v ≡ lower_of u (pos_in row r)
-      → v ≡ next_pos ms (state_of cap ws c) S row r (Held j)
+      → v ≡ next_pos ms (state_of cap ws c) S row r (Some j)
   unfolding next_pos use_of
   next_used S u v row r e f = f ∙ rw (e, k.is)
 
@@ -313,10 +308,10 @@ module _ (cap : ℕ) (ws : List ℕ) (c : Counts) (j : ℕ) (q : Piece) (k : Got
   next_rising i n y g = rw k.is (n.rising j (omega (arith, g.inside, records_are cap ws c y)))
 
 -- a use that was found, as a position
-pub use_none : (S : ℕ) (ps : List ℕ) (n : Spot) → n ≡ next_use S ps → n ≡ Nothing → Never ≡ pos_of_use (next_use S ps)
+pub use_none : (S : ℕ) (ps : List ℕ) (n : Option ℕ) → n ≡ next_use S ps → n ≡ None → Never ≡ pos_of_use (next_use S ps)
 use_none S ps n e f = simp (sym e, f)
 
-pub use_some : (S : ℕ) (ps : List ℕ) (n : Spot) (p : ℕ) → n ≡ next_use S ps → n ≡ Point p → At p ≡ pos_of_use (next_use S ps)
+pub use_some : (S : ℕ) (ps : List ℕ) (n : Option ℕ) (p : ℕ) → n ≡ next_use S ps → n ≡ Some p → At p ≡ pos_of_use (next_use S ps)
 use_some S ps n p e f = simp (sym e, f)
 
 lower_blocked : (p : Pos) → lower_of p Blocked ≡ Blocked
@@ -325,10 +320,10 @@ lower_blocked (At x) = refl
 lower_blocked Never = refl
 
 -- with the rules' words
-use_holder : (g : Given) (s : State) (S : ℕ) (h : Holder) → use_of g.tables.mentions s S h ≡ next_use_of g s S h
+use_holder : (g : Given) (s : State) (S : ℕ) (h : Option ℕ) → use_of g.tables.mentions s S h ≡ next_use_of g s S h
 unfolding use_of
-use_holder g s S Free = refl
-use_holder g s S (Held j) = refl
+use_holder g s S None = refl
+use_holder g s S (Some j) = refl
 
 same_fragments : {rs fs : List ℕ} (g : Given) (r : ℕ) → g.tables.registers ≡ rs → g.tables.fragments ≡ fs → fragments_of g r ≡ part (register_at rs r) fs
 same_fragments g r e f = rw (sym e, sym f)

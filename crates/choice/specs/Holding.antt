@@ -1,5 +1,5 @@
 -- What the active pieces put into a class's row: document 01, steps 2 and 4. Facts for contracts.
-use Rattle.std.specs.Prelude.{ℕ, ◌+◌, ◌≤◌, ◌<◌, ◌≡◌, ◌&&◌, List, length, leb, ltb}
+use Rattle.std.specs.Prelude.{ℕ, ◌+◌, ◌≤◌, ◌<◌, ◌≡◌, ◌&&◌, List, length, leb, ltb, Option, None, Some}
 use Rattle.words.specs.Choose.{choose}
 use Rattle.words.specs.Packed.{part, register_at}
 use Rattle.rules.specs.declared.Piece.{Piece}
@@ -7,8 +7,6 @@ use Rattle.rules.specs.declared.Place.{Place}
 use Rattle.rules.specs.declared.Place.TheVariants.{Nowhere, Register, Slot}
 use Rattle.rules.specs.declared.Pos.{Pos}
 use Rattle.rules.specs.declared.Pos.TheVariants.{Blocked, Never}
-use Rattle.rules.specs.declared.Holder.{Holder}
-use Rattle.rules.specs.declared.Holder.TheVariants.{Free, Held}
 use Rattle.rules.specs.Positions.{lower_of}
 use Rattle.rules.specs.State.{Given, State, piece}
 use Rattle.rules.specs.Uses.{mention_points, next_use}
@@ -16,27 +14,25 @@ use Rattle.rules.specs.Steps.{is_held, holder, pos_of_use, free_until, next_use_
 use Rattle.uses.specs.Runs.{Rising}
 use Rattle.activity.specs.Bits.{has_bit}
 use Rattle.activity.specs.Fixed.{fixed_pos}
-use Rattle.choice.specs.declared.Seat.{Seat}
-use Rattle.choice.specs.declared.Seat.TheVariants.{Outside, Inside}
 use Rattle.choice.specs.Row.{pos_in}
 
 -- the register of a place, if it is one of first..stop
-unfoldable pub seat_of : ℕ → ℕ → Place → Seat
-seat_of first stop Nowhere = Outside
-seat_of first stop (Register x) = choose (leb first x && ltb x stop) (Inside x) Outside
-seat_of first stop (Slot t) = Outside
+unfoldable pub seat_of : ℕ → ℕ → Place → Option ℕ
+seat_of first stop Nowhere = None
+seat_of first stop (Register x) = choose (leb first x && ltb x stop) (Some x) None
+seat_of first stop (Slot t) = None
 
 -- 4. "its active piece's next use from S"
-unfoldable pub use_of : List ℕ → State → ℕ → Holder → Pos
-use_of ms s S Free = Never
-use_of ms s S (Held j) = pos_of_use (next_use S (mention_points (part (piece s j).mentions ms)))
+unfoldable pub use_of : List ℕ → State → ℕ → Option ℕ → Pos
+use_of ms s S None = Never
+use_of ms s S (Some j) = pos_of_use (next_use S (mention_points (part (piece s j).mentions ms)))
 
 -- 4. "the least of its active piece's next use from S and" what the row says
-unfoldable pub next_pos : List ℕ → State → ℕ → List Pos → ℕ → Holder → Pos
+unfoldable pub next_pos : List ℕ → State → ℕ → List Pos → ℕ → Option ℕ → Pos
 next_pos ms s S row r h = lower_of (use_of ms s S h) (pos_in row r)
 
 -- each register of a class has the position that F gives it by its holder
-pub record HolderRow (F : ℕ → Holder → Pos) (s : State) (first count : ℕ) (row : List Pos) : Type 0 where
+pub record HolderRow (F : ℕ → Option ℕ → Pos) (s : State) (first count : ℕ) (row : List Pos) : Type 0 where
   pub is : (r : ℕ) → first ≤ r → r < first + count → pos_in row r ≡ F r (holder s r)
 
 -- the registers that active pieces hold, a bit for each

@@ -10,28 +10,28 @@ ghost use Rattle.uses.specs.Runs.{Rising};
 ghost use Rattle.activity.specs.Cursors.{Facing};
 ghost use Rattle.choice.specs.Holding.{FreeRow, HeldMask, HolderRow, OpenRow, Runs, UnfixedRow, next_pos, seat_of};
 
-use crate::{Seat, positions};
+use crate::positions;
 use activity::{REGISTERS, Tracker, bits, fixed};
 use rules::{Piece, Place, Pos};
 use store::{Counts, state};
 use uses::mentions as points;
-use words::{Range, Spot, read};
+use words::{Range, read};
 
-fn seat_of(place: Place, first: usize, stop: usize) -> Seat
+fn seat_of(place: Place, first: usize, stop: usize) -> Option<usize>
     ensures { result ≡ seat_of first stop place }
 {
     match place {
-        Place::Nowhere => Seat::Outside,
-        Place::Slot(_) => Seat::Outside,
+        Place::Nowhere => None,
+        Place::Slot(_) => None,
         Place::Register(x) => {
             let r = x as usize;
             if r < first {
-                return Seat::Outside;
+                return None;
             }
             if r < stop {
-                return Seat::Inside(r);
+                return Some(r);
             }
-            Seat::Outside
+            None
         }
     }
 }
@@ -49,7 +49,7 @@ fn held_mask(work: &[u32], cap: usize, counts: Counts) -> u64
         let q = state::piece(work, cap, counts, j);
         let place = q.place;
         let seat = seat_of(place, 0, REGISTERS);
-        if let Seat::Inside(r) = seat {
+        if let Some(r) = seat {
             mask = bits::with_bit(mask, r);
         }
     }
@@ -140,7 +140,7 @@ fn use_position(mentions: &[u32], range: Range, start: u16) -> Pos
     requires { Rising range mentions.now }
     ensures { result ≡ pos_of_use (next_use start (mention_points (part range mentions.now))) }
 {
-    let Spot::Point(p) = points::next_use(mentions, range, start) else {
+    let Some(p) = points::next_use(mentions, range, start) else {
         return Pos::Never;
     };
     Pos::At(p)
@@ -171,7 +171,7 @@ pub fn next_use_row(
         let q = state::piece(work, cap, counts, j);
         let place = q.place;
         let seat = seat_of(place, first, stop);
-        if let Seat::Inside(r) = seat {
+        if let Some(r) = seat {
             let range = q.mentions;
             let used = use_position(mentions, range, start);
             let old = block[r];

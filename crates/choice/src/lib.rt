@@ -10,13 +10,6 @@ pub mod rows;
 // Limits: 8 classes.
 pub const CLASSES: usize = 8;
 
-// The register of a place, if it is one of the class.
-#[derive(Clone, Copy)]
-pub enum Seat {
-    Outside,
-    Inside(usize),
-}
-
 // A register and its position.
 #[derive(Clone, Copy)]
 pub struct RegPos {

@@ -1,5 +1,6 @@
 -- The checks 3 to 8 give sound tables: what passes them is Accepted.
 -- Assumes nothing.
+use Rattle.std.specs.Prelude.{None}
 use Prim.Native.Nat.{ℕ, ◌+◌, ◌-◌, ◌*◌, ◌%◌, ◌≤◌, ◌<◌}
 use mathlib.Core.Path.{◌≡◌, refl}
 use mathlib.Core.Bool.{Bool, true, false, ◌&&◌, ◌||◌, not}
@@ -18,7 +19,6 @@ use Rattle.words.specs.declared.Mention.{Mention}
 use Rattle.rules.specs.declared.Answer.TheVariants.{OverLimit, BadClass, BadInterval, BadMention, BadSafepoint, BadFixed}
 use Rattle.rules.specs.declared.Check.{Check}
 use Rattle.rules.specs.declared.Check.TheVariants.{Fine, Refused}
-use Rattle.rules.specs.declared.Found.TheVariants.{Clean}
 use Rattle.rules.specs.Tables.{Tables}
 use Rattle.rules.specs.Uses.{at_def, points_in}
 use Rattle.rules.specs.Sound.{every, and_then, refuse_at, in_limits, check_limits, count_sum, scratch_good, class_good, bad_class, interval_good, bad_interval, ascends, mention_good, bad_mention, not_used_alone, safepoint_good, bad_safepoint, fragments_good, register_good, bad_fixed, check_tables}
@@ -170,11 +170,11 @@ module _ (T : Tables) where
 -- each of the six checks passed
 pub record Passes (T : Tables) : Type 0 where
   pub limits : check_limits T ≡ Fine
-  pub class : bad_class T ≡ Clean
-  pub interval : bad_interval T ≡ Clean
-  pub mention : bad_mention T ≡ Clean
-  pub safepoint : bad_safepoint T ≡ Clean
-  pub fixed : bad_fixed T ≡ Clean
+  pub class : bad_class T ≡ None
+  pub interval : bad_interval T ≡ None
+  pub mention : bad_mention T ≡ None
+  pub safepoint : bad_safepoint T ≡ None
+  pub fixed : bad_fixed T ≡ None
 
 pub passes : (T : Tables) → check_tables T ≡ Fine → Passes T
 unfolding check_tables
@@ -199,27 +199,27 @@ passes T e =
     }
 
 -- what a clean walk of each table says of each entry
-pub class_good_lem : (T : Tables) → bad_class T ≡ Clean → (k : ℕ) → k < length T.classes → class_good T k ≡ true
+pub class_good_lem : (T : Tables) → bad_class T ≡ None → (k : ℕ) → k < length T.classes → class_good T k ≡ true
 unfolding bad_class
 class_good_lem T e k h = first_good (class_good T) 0 (length T.classes) e k (omega arith) (omega arith)
 
-pub interval_good_lem : (T : Tables) → bad_interval T ≡ Clean → (v : ℕ) → v < interval_count T.intervals → interval_good T v ≡ true
+pub interval_good_lem : (T : Tables) → bad_interval T ≡ None → (v : ℕ) → v < interval_count T.intervals → interval_good T v ≡ true
 unfolding bad_interval
 interval_good_lem T e v h = first_good (interval_good T) 0 (interval_count T.intervals) (else_left _ _ e) v (omega arith) (omega arith)
 
-pub mention_good_lem : (T : Tables) → bad_mention T ≡ Clean → (v : ℕ) → v < interval_count T.intervals → (j : ℕ) → InRange (interval T v).mentions j → mention_good T (interval T v) j ≡ true
+pub mention_good_lem : (T : Tables) → bad_mention T ≡ None → (v : ℕ) → v < interval_count T.intervals → (j : ℕ) → InRange (interval T v).mentions j → mention_good T (interval T v) j ≡ true
 unfolding bad_mention
 mention_good_lem T e v h j r =
     let i : Interval = interval T v in
     first_good (mention_good T i) i.mentions.index i.mentions.count (first_clean _ 0 (interval_count T.intervals) e v (omega arith) (omega arith)) j r.0 r.1
 
-pub safepoint_good_lem : (T : Tables) → bad_safepoint T ≡ Clean → (v : ℕ) → v < interval_count T.intervals → (j : ℕ) → InRange (interval T v).safepoints j → safepoint_good T (interval T v) j ≡ true
+pub safepoint_good_lem : (T : Tables) → bad_safepoint T ≡ None → (v : ℕ) → v < interval_count T.intervals → (j : ℕ) → InRange (interval T v).safepoints j → safepoint_good T (interval T v) j ≡ true
 unfolding bad_safepoint
 safepoint_good_lem T e v h j r =
     let i : Interval = interval T v in
     first_good (safepoint_good T i) i.safepoints.index i.safepoints.count (first_clean _ 0 (interval_count T.intervals) e v (omega arith) (omega arith)) j r.0 r.1
 
-pub register_good_lem : (T : Tables) → bad_fixed T ≡ Clean → (r : ℕ) → r < length T.registers → register_good T r ≡ true
+pub register_good_lem : (T : Tables) → bad_fixed T ≡ None → (r : ℕ) → r < length T.registers → register_good T r ≡ true
 unfolding bad_fixed
 register_good_lem T e r h = first_good (register_good T) 0 (length T.registers) (else_left _ _ e) r (omega arith) (omega arith)
 
@@ -228,10 +228,10 @@ pub limits_kept : (T : Tables) → check_limits T ≡ Fine → Limits T
 unfolding check_limits
 limits_kept T e = limits_sound T (limits_true (in_limits T) e)
 
-pub intervals_kept : (T : Tables) → bad_interval T ≡ Clean → (v : ℕ) → v < interval_count T.intervals → IntervalSound T (interval T v)
+pub intervals_kept : (T : Tables) → bad_interval T ≡ None → (v : ℕ) → v < interval_count T.intervals → IntervalSound T (interval T v)
 intervals_kept T e v h = interval_sound T v (interval_good_lem T e v h)
 
-pub mentions_kept : (T : Tables) → bad_mention T ≡ Clean → (v : ℕ) → v < interval_count T.intervals → MentionsSound T (interval T v)
+pub mentions_kept : (T : Tables) → bad_mention T ≡ None → (v : ℕ) → v < interval_count T.intervals → MentionsSound T (interval T v)
 mentions_kept T e v h = mentions_sound T (interval T v) (mention_good_lem T e v h)
 
 -- Document 01, "Sound": tables that pass the checks 3 to 8 are sound.

@@ -1,5 +1,6 @@
 -- Laws of the walks that the checks at entry make: a clean walk is clean at each of its entries.
 -- Assumes nothing.
+use Rattle.std.specs.Prelude.{Option, None, Some}
 use Prim.Native.Nat.{ℕ, zero, suc, ◌+◌, ◌-◌, ◌≤◌, ◌<◌}
 use mathlib.Core.Path.{◌≡◌, refl, ap, ◌∙◌}
 use mathlib.Core.Bool.{Bool, true, false, ◌&&◌, ◌||◌}
@@ -17,8 +18,6 @@ use Rattle.words.specs.Packed.{class_in, fragment_in, part}
 use Rattle.rules.specs.declared.Answer.{Answer}
 use Rattle.rules.specs.declared.Check.{Check}
 use Rattle.rules.specs.declared.Check.TheVariants.{Fine, Refused}
-use Rattle.rules.specs.declared.Found.{Found}
-use Rattle.rules.specs.declared.Found.TheVariants.{Clean, Bad}
 use Rattle.rules.specs.Sound.{or_else, first, bad_unless, every, and_then, refuse_at, count_sum, ascends, ends_before, fragments_good}
 use Rattle.rules.specs.Accepted.{InRange}
 
@@ -45,35 +44,35 @@ pub then_right : (a b : Check) → and_then a b ≡ Fine → b ≡ Fine
 then_right Fine b e = e
 then_right (Refused x) b e = cc
 
-pub refuse_fine : (a : ℕ → Answer) (f : Found) → refuse_at a f ≡ Fine → f ≡ Clean
-refuse_fine a Clean e = refl
-refuse_fine a (Bad k) e = cc
+pub refuse_fine : (a : ℕ → Answer) (f : Option ℕ) → refuse_at a f ≡ Fine → f ≡ None
+refuse_fine a None e = refl
+refuse_fine a (Some k) e = cc
 
 -- both of two finds
-pub else_left : (a b : Found) → or_else a b ≡ Clean → a ≡ Clean
-else_left Clean b e = refl
-else_left (Bad k) b e = e
+pub else_left : (a b : Option ℕ) → or_else a b ≡ None → a ≡ None
+else_left None b e = refl
+else_left (Some k) b e = e
 
-pub else_right : (a b : Found) → or_else a b ≡ Clean → b ≡ Clean
-else_right Clean b e = e
-else_right (Bad k) b e = cc
+pub else_right : (a b : Option ℕ) → or_else a b ≡ None → b ≡ None
+else_right None b e = e
+else_right (Some k) b e = cc
 
-pub unless_clean : (b : Bool) (k : ℕ) → bad_unless b k ≡ Clean → b ≡ true
+pub unless_clean : (b : Bool) (k : ℕ) → bad_unless b k ≡ None → b ≡ true
 unless_clean true k e = refl
 unless_clean false k e = cc
 
 -- a clean walk is clean at each of its n indices from i on
-pub first_clean : (f : ℕ → Found) (i n : ℕ) → first f i n ≡ Clean → (k : ℕ) → i ≤ k → k < i + n → f k ≡ Clean
+pub first_clean : (f : ℕ → Option ℕ) (i n : ℕ) → first f i n ≡ None → (k : ℕ) → i ≤ k → k < i + n → f k ≡ None
 unfolding first
 first_clean f i zero e k l h = absurd (omega arith)
 first_clean f i (suc n) e k l h = go (ℕ_discrete k i) (λ m. first_clean f (suc i) n (else_right (f i) _ e) k m (omega arith))
   where
-    go : Dec (k ≡ i) → (suc i ≤ k → f k ≡ Clean) → f k ≡ Clean
+    go : Dec (k ≡ i) → (suc i ≤ k → f k ≡ None) → f k ≡ None
     go (yes d) later = ap f d ∙ else_left (f i) _ e
     go (no d) later = later (omega arith)
 
 -- where every entry from i on must be good, each is
-pub first_good : (g : ℕ → Bool) (i n : ℕ) → first (λ k. bad_unless (g k) k) i n ≡ Clean → (k : ℕ) → i ≤ k → k < i + n → g k ≡ true
+pub first_good : (g : ℕ → Bool) (i n : ℕ) → first (λ k. bad_unless (g k) k) i n ≡ None → (k : ℕ) → i ≤ k → k < i + n → g k ≡ true
 first_good g i n e k l h = unless_clean (g k) k (first_clean (λ j. bad_unless (g j) j) i n e k l h)
 
 -- a test that every entry passes, each passes

@@ -1,5 +1,6 @@
 -- What a call leaves, by its answer's number: the result area keeps its length and what lies past the capacity; 2 to 9 leave it as it was, 10 to 13 zero it.
 -- Assumes nothing.
+use Rattle.std.specs.Prelude.{Option, None, Some}
 use Prim.Native.Nat.{ℕ, ◌+◌, ◌-◌, ◌*◌, ◌≤◌}
 use mathlib.Core.Path.{◌≡◌, refl, sym, ap, ◌∙◌}
 use mathlib.Core.Bool.{Bool, true, false, ◌||◌}
@@ -11,14 +12,11 @@ use lib.Dec.{ltb}
 use borrow.Author.Tests.{ltb-false}
 use Rattle.words.specs.Choose.{choose}
 use Rattle.words.specs.Packed.{interval_count, record_words}
+use Rattle.rules.specs.declared.Strategy.{Strategy}
 use Rattle.rules.specs.declared.Answer.{Answer}
 use Rattle.rules.specs.declared.Answer.TheVariants.{BadStrategy, OverLimit, BadClass, BadInterval, BadMention, BadSafepoint, BadFixed, NoRoom}
-use Rattle.rules.specs.declared.Asked.{Asked}
-use Rattle.rules.specs.declared.Asked.TheVariants.{Unknown, Known}
 use Rattle.rules.specs.declared.Check.{Check}
 use Rattle.rules.specs.declared.Check.TheVariants.{Fine, Refused}
-use Rattle.rules.specs.declared.Found.{Found}
-use Rattle.rules.specs.declared.Found.TheVariants.{Clean, Bad}
 use Rattle.rules.specs.declared.Mode.{Mode}
 use Rattle.rules.specs.declared.Options.{Options}
 use Rattle.rules.specs.declared.Piece.{Piece}
@@ -45,9 +43,9 @@ entry_choose : (b : Bool) (x y : Check) → AtEntry x → AtEntry y → AtEntry 
 entry_choose true x y h k = h
 entry_choose false x y h k = k
 
-entry_at : (a : ℕ → Answer) → ((k : ℕ) → (3 ≤ number (a k)) × (number (a k) ≤ 9)) → (f : Found) → AtEntry (refuse_at a f)
-entry_at a h Clean = passes
-entry_at a h (Bad k) = refuses (a k) (h k).0 (h k).1
+entry_at : (a : ℕ → Answer) → ((k : ℕ) → (3 ≤ number (a k)) × (number (a k) ≤ 9)) → (f : Option ℕ) → AtEntry (refuse_at a f)
+entry_at a h None = passes
+entry_at a h (Some k) = refuses (a k) (h k).0 (h k).1
 
 limits_entry : (T : Tables) → AtEntry (check_limits T)
 unfolding check_limits
@@ -136,9 +134,9 @@ pub assign_leaves : (o : Options) (T : Tables) (out : List ℕ) (work : ℕ) →
 unfolding assign assign_by
 assign_leaves o T out work = by (strategy_of o.strategy)
   where
-    by : (y : Asked) → Leaves out (assign_by o T out work y)
-    by Unknown = refused_leaves out BadStrategy (omega arith)
-    by (Known y) = go (check T (capacity out) work) refl (check_entry T (capacity out) work)
+    by : (y : Option Strategy) → Leaves out (assign_by o T out work y)
+    by None = refused_leaves out BadStrategy (omega arith)
+    by (Some y) = go (check T (capacity out) work) refl (check_entry T (capacity out) work)
       where
         go : (k : Check) → check T (capacity out) work ≡ k → AtEntry k → Leaves out (unless_refused k out (finish (run_for (mode_of y o) T (capacity out)) out))
         go Fine e h = finish_leaves (mode_of y o) T out _ (call_ends (mode_of y o) T (capacity out) work e)
@@ -160,8 +158,8 @@ answers_alone o T out other work e = by (strategy_of o.strategy)
     checked Fine x = finishes x
     checked (Refused a) x = refl
 
-    by : (y : Asked) → (assign_by o T out work y).answer ≡ (assign_by o T other work y).answer
-    by Unknown = refl
-    by (Known y) =
+    by : (y : Option Strategy) → (assign_by o T out work y).answer ≡ (assign_by o T other work y).answer
+    by None = refl
+    by (Some y) =
         ap (λ (cap : ℕ). (unless_refused (check T cap work) out (finish (run_for (mode_of y o) T cap) out)).answer) same
         ∙ checked (check T (capacity other) work) (run_for (mode_of y o) T (capacity other))

@@ -1,5 +1,6 @@
 -- Step 5 in the work area is step 5 of `rules`, and leaves the area ready.
 -- Assumes nothing.
+use Rattle.std.specs.Prelude.{Option, None, Some}
 use Prim.Native.Nat.{ℕ, ◌<◌}
 use mathlib.Core.Path.{◌≡◌, refl, sym, ap, ◌∙◌}
 use mathlib.Core.Bool.{Bool, true, false}
@@ -12,8 +13,6 @@ use borrow.Author.Tests.{eq-eqb, ne_eqb}
 use Rattle.words.specs.Choose.{choose}
 use Rattle.words.specs.Packed.{part, interval_at}
 use Rattle.words.specs.Points.{use_point, def_point}
-use Rattle.words.specs.declared.Spot.{Spot}
-use Rattle.words.specs.declared.Spot.TheVariants.{Nothing, Point}
 use Rattle.rules.specs.declared.Piece.{Piece}
 use Rattle.rules.specs.declared.Place.TheVariants.{Register}
 use Rattle.rules.specs.declared.Strategy.{Strategy}
@@ -25,8 +24,6 @@ use Rattle.rules.specs.Steps.{keep_or_spill, first_safepoint, handle_safepoints}
 use Rattle.rules.specs.Uses.{mention_points, next_use, last_use}
 use Rattle.uses.specs.Runs.{Ascending}
 use Rattle.uses.specs.Safepoints.{head_of}
-use Rattle.uses.specs.declared.Safepoint.{Safepoint}
-use Rattle.uses.specs.declared.Safepoint.TheVariants.{Missing, Instruction}
 use Rattle.uses.proofs.SafepointLaws.{first_missing, first_is, head_missing, head_is}
 use Rattle.store.specs.declared.Counts.{Counts}
 use Rattle.store.specs.StateOf.{state_of, Got}
@@ -45,69 +42,69 @@ does_as cap ms ss ws ws' c r o o' e d = record { meets = d.meets ∙ e; turned =
 
 module _ (cap : ℕ) (is ms ss : List ℕ) where
   -- the strategy has no part in a spill up to the next use
-  next_any : (y : Strategy) (s : State) (k : ℕ) (x : Spot)
+  next_any : (y : Strategy) (s : State) (k : ℕ) (x : Option ℕ)
       → go_on (split_if_any (cutting From is ms ss cap) s k x) (λ t. goes (spill (cutting From is ms ss cap) t k))
       ≡ go_on (split_if_any (cutting y is ms ss cap) s k x) (λ t. goes (spill (cutting y is ms ss cap) t k))
   unfolding split_if_any split_and_queue split spill
-  next_any y s k Nothing = refl
-  next_any y s k (Point n) = refl
+  next_any y s k None = refl
+  next_any y s k (Some n) = refl
 
   module _ (ws : List ℕ) (c : Counts) (k : ℕ) (q : Piece) where
     -- no use follows: the piece is spilled
-    pub next_none : (ws' : List ℕ) (d : Counts) (p : ℕ) (x : Spot) → HeldOf cap is ms ss ws c k → Got cap ws c k q
-        → x ≡ next_use p (mention_points (part q.mentions ms)) → x ≡ Nothing → Spilt cap is ws ws' c d k
+    pub next_none : (ws' : List ℕ) (d : Counts) (p : ℕ) (x : Option ℕ) → HeldOf cap is ms ss ws c k → Got cap ws c k q
+        → x ≡ next_use p (mention_points (part q.mentions ms)) → x ≡ None → Spilt cap is ws ws' c d k
         → Does cap ms ss ws ws' c (On d) (spill_to_next (cutting From is ms ss cap) (state_of cap ws c) k p)
     unfolding split_if_any
     next_none ws' d p x h g e n s =
-        let e' : next_use p (mention_points (part q.mentions ms)) ≡ Nothing = sym e ∙ n in
+        let e' : next_use p (mention_points (part q.mentions ms)) ≡ None = sym e ∙ n in
         does_as cap ms ss ws ws' c (On d) (goes (spill (cutting From is ms ss cap) (state_of cap ws c) k)) _ (rw (← g.is, e')) (spilt_does cap is ms ss ws ws' c d k From h s)
 
     -- a use follows: it is split there, and spilled
-    pub next_some : (ws' : List ℕ) (p n : ℕ) (x : Spot) (r : Turn) → Got cap ws c k q
-        → x ≡ next_use p (mention_points (part q.mentions ms)) → x ≡ Point n → Does cap ms ss ws ws' c r (split_then_spill (cutting From is ms ss cap) (state_of cap ws c) k n)
+    pub next_some : (ws' : List ℕ) (p n : ℕ) (x : Option ℕ) (r : Turn) → Got cap ws c k q
+        → x ≡ next_use p (mention_points (part q.mentions ms)) → x ≡ Some n → Does cap ms ss ws ws' c r (split_then_spill (cutting From is ms ss cap) (state_of cap ws c) k n)
         → Does cap ms ss ws ws' c r (spill_to_next (cutting From is ms ss cap) (state_of cap ws c) k p)
     unfolding split_if_any
     next_some ws' p n x r g e m d =
-        let e' : next_use p (mention_points (part q.mentions ms)) ≡ Point n = sym e ∙ m in
+        let e' : next_use p (mention_points (part q.mentions ms)) ≡ Some n = sym e ∙ m in
         does_as cap ms ss ws ws' c r (split_then_spill (cutting From is ms ss cap) (state_of cap ws c) k n) _ (rw (← g.is, e')) d
 
-    module _ (y : Strategy) (x def : ℕ) (z : Spot) where
+    module _ (y : Strategy) (x def : ℕ) (z : Option ℕ) where
       -- no use at or before the safepoint
-      pub at_none : (ws' : List ℕ) (r : Turn) → Got cap ws c k q → def ≡ def_point x → z ≡ last_use def (mention_points (part q.mentions ms)) → z ≡ Nothing
+      pub at_none : (ws' : List ℕ) (r : Turn) → Got cap ws c k q → def ≡ def_point x → z ≡ last_use def (mention_points (part q.mentions ms)) → z ≡ None
           → Does cap ms ss ws ws' c r (spill_to_next (cutting From is ms ss cap) (state_of cap ws c) k def)
           → Does cap ms ss ws ws' c r (at_safepoint (cutting y is ms ss cap) (state_of cap ws c) k x)
       unfolding keep_or_spill
       at_none ws' r g f e n d =
-          let e' : last_use (def_point x) (mention_points (part (piece (state_of cap ws c) k).mentions ms)) ≡ Nothing = rw g.is at (sym (rw f at e) ∙ n) in
+          let e' : last_use (def_point x) (mention_points (part (piece (state_of cap ws c) k).mentions ms)) ≡ None = rw g.is at (sym (rw f at e) ∙ n) in
           does_as cap ms ss ws ws' c r (spill_to_next (cutting From is ms ss cap) (state_of cap ws c) k def) _ (next_any y (state_of cap ws c) k _ ∙ rw (f, e')) d
 
       -- the last use is the safepoint's definition: the piece is kept
-      pub at_kept : (u : ℕ) → HeldOf cap is ms ss ws c k → Got cap ws c k q → def ≡ def_point x → z ≡ last_use def (mention_points (part q.mentions ms)) → z ≡ Point u
+      pub at_kept : (u : ℕ) → HeldOf cap is ms ss ws c k → Got cap ws c k q → def ≡ def_point x → z ≡ last_use def (mention_points (part q.mentions ms)) → z ≡ Some u
           → u ≡ def → Does cap ms ss ws ws c (On c) (at_safepoint (cutting y is ms ss cap) (state_of cap ws c) k x)
       unfolding keep_or_spill
       at_kept u h g f e m same =
-          let e' : last_use (def_point x) (mention_points (part q.mentions ms)) ≡ Point u = sym (rw f at e) ∙ m in
+          let e' : last_use (def_point x) (mention_points (part q.mentions ms)) ≡ Some u = sym (rw f at e) ∙ m in
           stays cap ms ss ws c k _ (record { ready = h.ready; fit = h.fit; inside = h.inside }) (rw (← g.is, e', eq-eqb u (def_point x) (same ∙ f)))
 
       -- another last use: split-and-spill at the safepoint
-      pub at_spilt : (ws' : List ℕ) (u p : ℕ) (r : Turn) → Got cap ws c k q → def ≡ def_point x → z ≡ last_use def (mention_points (part q.mentions ms)) → z ≡ Point u
+      pub at_spilt : (ws' : List ℕ) (u p : ℕ) (r : Turn) → Got cap ws c k q → def ≡ def_point x → z ≡ last_use def (mention_points (part q.mentions ms)) → z ≡ Some u
           → (u ≡ def → ⊥) → p ≡ use_point x → Does cap ms ss ws ws' c r (split_and_spill (cutting y is ms ss cap) (state_of cap ws c) k p)
           → Does cap ms ss ws ws' c r (at_safepoint (cutting y is ms ss cap) (state_of cap ws c) k x)
       unfolding keep_or_spill
       at_spilt ws' u p r g f e m other at d =
-          let e' : last_use (def_point x) (mention_points (part q.mentions ms)) ≡ Point u = sym (rw f at e) ∙ m in
+          let e' : last_use (def_point x) (mention_points (part q.mentions ms)) ≡ Some u = sym (rw f at e) ∙ m in
           does_as cap ms ss ws ws' c r (split_and_spill (cutting y is ms ss cap) (state_of cap ws c) k p) _ (rw (← g.is, e', ne_eqb u (def_point x) (λ i. other (i ∙ sym f)), at)) d
 
-    module _ (y : Strategy) (z : Safepoint) where
+    module _ (y : Strategy) (z : Option ℕ) where
       -- there is no safepoint
-      pub first_none : HeldOf cap is ms ss ws c k → Got cap ws c k q → z ≡ head_of (part q.safepoints ss) → z ≡ Missing
+      pub first_none : HeldOf cap is ms ss ws c k → Got cap ws c k q → z ≡ head_of (part q.safepoints ss) → z ≡ None
           → Does cap ms ss ws ws c (On c) (at_first (cutting y is ms ss cap) (state_of cap ws c) k)
       unfolding first_safepoint
       first_none h g e n =
           stays cap ms ss ws c k _ (record { ready = h.ready; fit = h.fit; inside = h.inside }) (rw (← g.is, head_missing (part q.safepoints ss) (sym e ∙ n)))
 
       -- there is one
-      pub first_some : (ws' : List ℕ) (x : ℕ) (r : Turn) → Got cap ws c k q → z ≡ head_of (part q.safepoints ss) → z ≡ Instruction x
+      pub first_some : (ws' : List ℕ) (x : ℕ) (r : Turn) → Got cap ws c k q → z ≡ head_of (part q.safepoints ss) → z ≡ Some x
           → Does cap ms ss ws ws' c r (at_safepoint (cutting y is ms ss cap) (state_of cap ws c) k x) → Does cap ms ss ws ws' c r (at_first (cutting y is ms ss cap) (state_of cap ws c) k)
       unfolding first_safepoint
       first_some ws' x r g e n d =
@@ -119,7 +116,7 @@ module _ (cap : ℕ) (is ms ss : List ℕ) where
     of_ascending h g = (got_fits cap ms ss ws c k q (record { ready = h.ready; fit = h.fit; inside = h.inside }) g).safepoints
 
     -- .. and each is an instruction
-    pub first_below : (z : Safepoint) (x : ℕ) → HeldOf cap is ms ss ws c k → Got cap ws c k q → z ≡ head_of (part q.safepoints ss) → z ≡ Instruction x → x < 32768
+    pub first_below : (z : Option ℕ) (x : ℕ) → HeldOf cap is ms ss ws c k → Got cap ws c k q → z ≡ head_of (part q.safepoints ss) → z ≡ Some x → x < 32768
     first_below z x h g e n = go (ℕ_discrete q.safepoints.count 0)
       where
         up : Ascending q.safepoints ss
@@ -157,15 +154,15 @@ looks_register is q r b e f = rw e f
 
 module _ (g : Given) (s : State) (k : ℕ) where
   -- the parts of step 5 read no more than splits and spills of all that a run is given
-  until_narrow : (x : Spot) → go_on (split_if_any g s k x) (λ t. goes (spill g t k)) ≡ go_on (split_if_any (narrow g) s k x) (λ t. goes (spill (narrow g) t k))
+  until_narrow : (x : Option ℕ) → go_on (split_if_any g s k x) (λ t. goes (spill g t k)) ≡ go_on (split_if_any (narrow g) s k x) (λ t. goes (spill (narrow g) t k))
   unfolding split_if_any split_and_queue split spill
-  until_narrow Nothing = refl
-  until_narrow (Point n) = refl
+  until_narrow None = refl
+  until_narrow (Some n) = refl
 
-  keep_narrow : (x : ℕ) (z : Spot) → keep_or_spill g s k x z ≡ keep_or_spill (narrow g) s k x z
+  keep_narrow : (x : ℕ) (z : Option ℕ) → keep_or_spill g s k x z ≡ keep_or_spill (narrow g) s k x z
   unfolding keep_or_spill
-  keep_narrow x (Point u) = ap (λ (o : Outcome). choose (eqb u (def_point x)) (goes s) o) (and_narrow g s k (use_point x))
-  keep_narrow x Nothing = until_narrow _
+  keep_narrow x (Some u) = ap (λ (o : Outcome). choose (eqb u (def_point x)) (goes s) o) (and_narrow g s k (use_point x))
+  keep_narrow x None = until_narrow _
 
   first_narrow : (xs : List ℕ) → first_safepoint g s k xs ≡ first_safepoint (narrow g) s k xs
   unfolding first_safepoint

@@ -13,8 +13,7 @@ ghost use Rattle.safepoints.specs.Safepoint.{looking, spill_to_next, at_safepoin
 use rules::{Piece, Place, Strategy};
 use split::{Turn, spilling, spills};
 use store::{Counts, state};
-use uses::Safepoint;
-use words::{Spot, points};
+use words::points;
 
 // Interval v is of references: bit 28 of its first word.
 fn is_reference(intervals: &[u32], v: usize) -> bool
@@ -54,7 +53,7 @@ fn spill_to_next(
 {
     let q = state::piece(work, cap, counts, k);
     let range = q.mentions;
-    let Spot::Point(n) = uses::mentions::next_use(mentions, range, p) else {
+    let Some(n) = uses::mentions::next_use(mentions, range, p) else {
         return Turn::On(spills::spill(intervals, work, cap, counts, k));
     };
     spilling::split_then_spill(intervals, mentions, safepoints, work, cap, counts, k, n)
@@ -79,7 +78,7 @@ fn keep_or_spill(
     let q = state::piece(work, cap, counts, k);
     let range = q.mentions;
     let def = points::def_point(x);
-    let Spot::Point(u) = uses::mentions::last_use(mentions, range, def) else {
+    let Some(u) = uses::mentions::last_use(mentions, range, def) else {
         return spill_to_next(intervals, mentions, safepoints, work, cap, counts, k, def);
     };
     if u == def {
@@ -107,7 +106,7 @@ fn at_first_safepoint(
 {
     let q = state::piece(work, cap, counts, k);
     let range = q.safepoints;
-    let Safepoint::Instruction(x) = uses::safepoints::first_safepoint(safepoints, range) else {
+    let Some(x) = uses::safepoints::first_safepoint(safepoints, range) else {
         return Turn::On(counts);
     };
     keep_or_spill(

@@ -1,5 +1,6 @@
 -- Every piece still fits after a split, a place and a spill.
 -- Assumes nothing.
+use Rattle.std.specs.Prelude.{Option, None, Some}
 use Prim.Native.Nat.{ℕ, zero, suc, ◌<◌}
 use mathlib.Core.Path.{◌≡◌, sym}
 use mathlib.Core.List.{List, [], ◌∷◌, ◌++◌}
@@ -8,8 +9,6 @@ use native.Mathlib.Decide.{ℕ_discrete}
 use lib.ListN.{length, get_or, set, length-set}
 use lib.Seq.{get_or-set_same, get_or-set_other}
 use Rattle.words.specs.declared.Range.{Range}
-use Rattle.rules.specs.declared.Home.{Home}
-use Rattle.rules.specs.declared.Home.TheVariants.{Unspilled, Spilled}
 use Rattle.rules.specs.declared.Piece.{Piece}
 use Rattle.rules.specs.declared.Place.{Place}
 use Rattle.rules.specs.declared.Place.TheVariants.{Slot}
@@ -101,10 +100,10 @@ module _ (ms ss : List ℕ) where
   fit_enqueue s k h = h
 
   -- a spill keeps the fit
-  pub fit_spill_to : (s : State) (k size : ℕ) (h : Home) → k < length s.pieces → Fit ms ss s.pieces → Fit ms ss (spill_to s k size h).pieces
+  pub fit_spill_to : (s : State) (k size : ℕ) (h : Option ℕ) → k < length s.pieces → Fit ms ss s.pieces → Fit ms ss (spill_to s k size h).pieces
   unfolding spill_to
-  fit_spill_to s k size (Spilled t) l f = fit_put s k (Slot t) l f
-  fit_spill_to s k size Unspilled l f = fit_put _ k (Slot _) l f
+  fit_spill_to s k size (Some t) l f = fit_put s k (Slot t) l f
+  fit_spill_to s k size None l f = fit_put _ k (Slot _) l f
 
   pub fit_spill : (g : Given) (s : State) (k : ℕ) → k < length s.pieces → Fit ms ss s.pieces → Fit ms ss (spill g s k).pieces
   unfolding spill

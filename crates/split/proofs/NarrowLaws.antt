@@ -1,16 +1,13 @@
 -- Splits and spills read no more than the strategy, three tables and the capacity of all that a run is given.
 -- Assumes nothing.
+use Rattle.std.specs.Prelude.{Option, None, Some}
 use Prim.Native.Nat.{ℕ, ◌+◌, min}
 use mathlib.Core.Path.{◌≡◌, refl, ap, ◌∙◌}
 use mathlib.Core.Bool.{Bool, true, false}
 use mathlib.Core.List.{[]}
 use lib.Dec.{ltb}
 use Rattle.words.specs.Choose.{choose}
-use Rattle.words.specs.declared.Spot.{Spot}
-use Rattle.words.specs.declared.Spot.TheVariants.{Nothing, Point}
 use Rattle.rules.specs.declared.Answer.TheVariants.{NoRecord}
-use Rattle.rules.specs.declared.Holder.{Holder}
-use Rattle.rules.specs.declared.Holder.TheVariants.{Free, Held}
 use Rattle.rules.specs.declared.Strategy.TheVariants.{From}
 use Rattle.rules.specs.State.{Given, State, goes, stops, go_on, with_pieces}
 use Rattle.rules.specs.Slots.{spill}
@@ -37,19 +34,19 @@ module _ (g : Given) where
   unfolding spill_until split_and_queue split spill
   until_any s k f = refl
 
-  pub if_narrow : (s : State) (k : ℕ) (x : Spot) → split_if_any g s k x ≡ split_if_any (narrow g) s k x
+  pub if_narrow : (s : State) (k : ℕ) (x : Option ℕ) → split_if_any g s k x ≡ split_if_any (narrow g) s k x
   unfolding split_if_any split_and_queue split
-  if_narrow s k Nothing = refl
-  if_narrow s k (Point n) = refl
+  if_narrow s k None = refl
+  if_narrow s k (Some n) = refl
 
   pub tail_narrow : (s : State) (k p : ℕ) → queue_tail g s k p ≡ queue_tail (narrow g) s k p
   unfolding queue_tail
   tail_narrow s k p = if_narrow s k _
 
-  pub by_narrow : (s : State) (k p : ℕ) (x : Spot) → split_and_spill_by g s k p x ≡ split_and_spill_by (narrow g) s k p x
+  pub by_narrow : (s : State) (k p : ℕ) (x : Option ℕ) → split_and_spill_by g s k p x ≡ split_and_spill_by (narrow g) s k p x
   unfolding split_and_spill_by split
-  by_narrow s k p Nothing = tail_narrow (spill g s k) k p ∙ ap (λ (t : State). queue_tail (narrow g) t k p) (spill_narrow s k)
-  by_narrow s k p (Point u) = go (ltb (new_record s) g.capacity)
+  by_narrow s k p None = tail_narrow (spill g s k) k p ∙ ap (λ (t : State). queue_tail (narrow g) t k p) (spill_narrow s k)
+  by_narrow s k p (Some u) = go (ltb (new_record s) g.capacity)
     where
       parted : State
       parted = with_pieces (split_pieces g.tables.mentions g.tables.safepoints s.pieces k (pick g.mode.strategy (min (u + 1) p) p)) s
@@ -65,7 +62,7 @@ module _ (g : Given) where
   and_narrow s k p = by_narrow s k p _
 
   -- what is done to a holder reads no more than a split-and-spill does
-  pub holder_narrow : (s : State) (S : ℕ) (h : Holder) → spill_holder g s S h ≡ spill_holder (narrow g) s S h
+  pub holder_narrow : (s : State) (S : ℕ) (h : Option ℕ) → spill_holder g s S h ≡ spill_holder (narrow g) s S h
   unfolding spill_holder
-  holder_narrow s S Free = refl
-  holder_narrow s S (Held j) = and_narrow s j S
+  holder_narrow s S None = refl
+  holder_narrow s S (Some j) = and_narrow s j S

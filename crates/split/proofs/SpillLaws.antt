@@ -1,5 +1,6 @@
 -- A spill and a split-and-spill in the work area are those of `rules`, and leave the area ready.
 -- Assumes nothing.
+use Rattle.std.specs.Prelude.{Option, None, Some}
 use Prim.Native.Nat.{ℕ, ◌+◌, ◌*◌, ◌^◌, ◌≤◌, ◌<◌, min}
 use mathlib.Core.Path.{◌≡◌, refl, sym, ◌∙◌}
 use mathlib.Core.List.{List, []}
@@ -7,10 +8,7 @@ use native.Mathlib.Omega.{arith}
 use lib.ListN.{length, get_or}
 use Rattle.words.specs.Field.{bits}
 use Rattle.words.specs.Packed.{part}
-use Rattle.words.specs.declared.Spot.{Spot}
-use Rattle.words.specs.declared.Spot.TheVariants.{Nothing, Point}
 use Rattle.rules.specs.declared.Answer.TheVariants.{NoRecord}
-use Rattle.rules.specs.declared.Home.TheVariants.{Unspilled}
 use Rattle.rules.specs.declared.Piece.{Piece}
 use Rattle.rules.specs.declared.Strategy.{Strategy}
 use Rattle.rules.specs.declared.Strategy.TheVariants.{From}
@@ -37,7 +35,7 @@ further cap ms ss ws c e r l i w (off a) = off a
 
 -- the spill of the store is the spill of the rules: the slot's size is the interval's
 pub spilt : (cap : ℕ) (is ws ws' : List ℕ) (c d : Counts) (k : ℕ) (q : Piece) (log : ℕ) → Got cap ws c k q → log ≡ bits 26 2 (get_or is (q.interval * 4) 0)
-    → After cap ws ws' c d (spill_to (state_of cap ws c) k (2 ^ log) (get_or (state_of cap ws c).homes (piece (state_of cap ws c) k).interval Unspilled)) c.records c.queued c.active
+    → After cap ws ws' c d (spill_to (state_of cap ws c) k (2 ^ log) (get_or (state_of cap ws c).homes (piece (state_of cap ws c) k).interval None)) c.records c.queued c.active
     → Spilt cap is ws ws' c d k
 unfolding spill
 spilt cap is ws ws' c d k q log g e a =
@@ -51,17 +49,17 @@ module _ (cap : ℕ) (ms ss : List ℕ) where
       record { meets = e; turned = on c (record { ready = h.ready; fit = h.fit; records = omega arith; intervals = refl; slack = omega arith }); long = refl }
 
   -- no use follows; or the spilled record is split there
-  pub tail_none : (y : Strategy) (is ws : List ℕ) (c : Counts) (k p : ℕ) (q : Piece) (x : Spot) → Held cap ms ss ws c k → Got cap ws c k q
-      → x ≡ next_use p (mention_points (part q.mentions ms)) → x ≡ Nothing → Does cap ms ss ws ws c (On c) (queue_tail (cutting y is ms ss cap) (state_of cap ws c) k p)
+  pub tail_none : (y : Strategy) (is ws : List ℕ) (c : Counts) (k p : ℕ) (q : Piece) (x : Option ℕ) → Held cap ms ss ws c k → Got cap ws c k q
+      → x ≡ next_use p (mention_points (part q.mentions ms)) → x ≡ None → Does cap ms ss ws ws c (On c) (queue_tail (cutting y is ms ss cap) (state_of cap ws c) k p)
   unfolding queue_tail split_if_any
-  tail_none y is ws c k p q x h g e n = let e' : next_use p (mention_points (part q.mentions ms)) ≡ Nothing = sym e ∙ n in stays ws c k _ h (rw (← g.is, e'))
+  tail_none y is ws c k p q x h g e n = let e' : next_use p (mention_points (part q.mentions ms)) ≡ None = sym e ∙ n in stays ws c k _ h (rw (← g.is, e'))
 
-  pub tail_some : (y : Strategy) (is ws ws' : List ℕ) (c : Counts) (k p n : ℕ) (q : Piece) (x : Spot) (r : Turn) → Got cap ws c k q
-      → x ≡ next_use p (mention_points (part q.mentions ms)) → x ≡ Point n → Does cap ms ss ws ws' c r (split_and_queue (cutting y is ms ss cap) (state_of cap ws c) k n)
+  pub tail_some : (y : Strategy) (is ws ws' : List ℕ) (c : Counts) (k p n : ℕ) (q : Piece) (x : Option ℕ) (r : Turn) → Got cap ws c k q
+      → x ≡ next_use p (mention_points (part q.mentions ms)) → x ≡ Some n → Does cap ms ss ws ws' c r (split_and_queue (cutting y is ms ss cap) (state_of cap ws c) k n)
       → Does cap ms ss ws ws' c r (queue_tail (cutting y is ms ss cap) (state_of cap ws c) k p)
   unfolding queue_tail split_if_any
   tail_some y is ws ws' c k p n q x r g e m d =
-      let e' : next_use p (mention_points (part q.mentions ms)) ≡ Point n = sym e ∙ m in record { meets = rw (← g.is, e') d.meets; turned = d.turned; long = d.long }
+      let e' : next_use p (mention_points (part q.mentions ms)) ≡ Some n = sym e ∙ m in record { meets = rw (← g.is, e') d.meets; turned = d.turned; long = d.long }
 
   -- the mentions of the piece that was read can be walked
   pub of_rising : (is ws : List ℕ) (c : Counts) (k : ℕ) (q : Piece) → HeldOf cap is ms ss ws c k → Got cap ws c k q → Rising q.mentions ms
@@ -85,10 +83,10 @@ module _ (cap : ℕ) (ms ss : List ℕ) where
       record { ready = s.after.ready; fit = s.fit; inside = omega (arith, s.after.records); rows = s.after.intervals ∙ h.rows }
 
   -- the strategy and the intervals have no part in what is queued
-  if_any : (y : Strategy) (is : List ℕ) (s : State) (k : ℕ) (x : Spot) → split_if_any (cutting y is ms ss cap) s k x ≡ split_if_any (cutting From [] ms ss cap) s k x
+  if_any : (y : Strategy) (is : List ℕ) (s : State) (k : ℕ) (x : Option ℕ) → split_if_any (cutting y is ms ss cap) s k x ≡ split_if_any (cutting From [] ms ss cap) s k x
   unfolding split_if_any split_and_queue split
-  if_any y is s k Nothing = refl
-  if_any y is s k (Point n) = refl
+  if_any y is s k None = refl
+  if_any y is s k (Some n) = refl
 
   pub tail_any : (y : Strategy) (is : List ℕ) (s : State) (k p : ℕ) → queue_tail (cutting y is ms ss cap) s k p ≡ queue_tail (cutting From [] ms ss cap) s k p
   unfolding queue_tail
@@ -113,7 +111,7 @@ module _ (cap : ℕ) (ms ss : List ℕ) where
   module _ (y : Strategy) (is ws : List ℕ) (c : Counts) (k p : ℕ) where
     -- 10: there is no record for the child
     pub after_full : (u : ℕ) → HeldOf cap is ms ss ws c k → cap ≤ c.records
-        → Does cap ms ss ws ws c (Off (NoRecord k)) (split_and_spill_by (cutting y is ms ss cap) (state_of cap ws c) k p (Point u))
+        → Does cap ms ss ws ws c (Off (NoRecord k)) (split_and_spill_by (cutting y is ms ss cap) (state_of cap ws c) k p (Some u))
     unfolding outcome_of split_and_spill_by
     after_full u h l =
         record {
@@ -126,7 +124,7 @@ module _ (cap : ℕ) (ms ss : List ℕ) where
     pub after_last : (u from at new : ℕ) (ws₁ ws₂ : List ℕ) (d : Counts) (r : Turn) → HeldOf cap is ms ss ws c k → c.records < cap → new ≡ c.records
         → from ≡ min (u + 1) p → at ≡ pick y from p → Parted cap ms ss ws ws₁ c d k at
         → Does cap ms ss ws₁ ws₂ d r (queue_tail (cutting From is ms ss cap) (spill (cutting From is ms ss cap) (state_of cap ws₁ d) new) new p)
-        → Does cap ms ss ws ws₂ c r (split_and_spill_by (cutting y is ms ss cap) (state_of cap ws c) k p (Point u))
+        → Does cap ms ss ws ws₂ c r (split_and_spill_by (cutting y is ms ss cap) (state_of cap ws c) k p (Some u))
     unfolding split_and_spill_by
     after_last u from at new ws₁ ws₂ d r h room n f a s b =
         record {
@@ -139,18 +137,18 @@ module _ (cap : ℕ) (ms ss : List ℕ) where
         records = records_are cap ws c h.ready
 
     -- a last use was found: what is done by it is split-and-spill
-    pub last_some : (u : ℕ) (ws' : List ℕ) (q : Piece) (x : Spot) (r : Turn) → Got cap ws c k q → x ≡ last_use p (mention_points (part q.mentions ms)) → x ≡ Point u
-        → Does cap ms ss ws ws' c r (split_and_spill_by (cutting y is ms ss cap) (state_of cap ws c) k p (Point u))
+    pub last_some : (u : ℕ) (ws' : List ℕ) (q : Piece) (x : Option ℕ) (r : Turn) → Got cap ws c k q → x ≡ last_use p (mention_points (part q.mentions ms)) → x ≡ Some u
+        → Does cap ms ss ws ws' c r (split_and_spill_by (cutting y is ms ss cap) (state_of cap ws c) k p (Some u))
         → Does cap ms ss ws ws' c r (split_and_spill (cutting y is ms ss cap) (state_of cap ws c) k p)
     unfolding split_and_spill
     last_some u ws' q x r g e m d =
-        let e' : last_use p (mention_points (part q.mentions ms)) ≡ Point u = sym e ∙ m in record { meets = rw (← g.is, e') d.meets; turned = d.turned; long = d.long }
+        let e' : last_use p (mention_points (part q.mentions ms)) ≡ Some u = sym e ∙ m in record { meets = rw (← g.is, e') d.meets; turned = d.turned; long = d.long }
 
     -- none: the piece itself is spilled, and its tail queued
-    pub last_none : (ws' : List ℕ) (q : Piece) (x : Spot) (r : Turn) → Got cap ws c k q → x ≡ last_use p (mention_points (part q.mentions ms)) → x ≡ Nothing
+    pub last_none : (ws' : List ℕ) (q : Piece) (x : Option ℕ) (r : Turn) → Got cap ws c k q → x ≡ last_use p (mention_points (part q.mentions ms)) → x ≡ None
         → Does cap ms ss ws ws' c r (queue_tail (cutting From is ms ss cap) (spill (cutting From is ms ss cap) (state_of cap ws c) k) k p)
         → Does cap ms ss ws ws' c r (split_and_spill (cutting y is ms ss cap) (state_of cap ws c) k p)
     unfolding split_and_spill split_and_spill_by
     last_none ws' q x r g f n b =
-        let f' : last_use p (mention_points (part q.mentions ms)) ≡ Nothing = sym f ∙ n in
+        let f' : last_use p (mention_points (part q.mentions ms)) ≡ None = sym f ∙ n in
         record { meets = rw (← g.is, f', tail_any y is, spill_any y is) (rw (tail_any From is, spill_any From is) at b.meets); turned = b.turned; long = b.long }

@@ -1,5 +1,5 @@
 // The spill of a record, and split-and-spill.
-ghost use Rattle.std.specs.Prelude.{◌≡◌, ℕ, ◌+◌, min, []};
+ghost use Rattle.std.specs.Prelude.{◌≡◌, ℕ, ◌+◌, min, [], Some};
 ghost use Rattle.rules.specs.declared.Strategy.TheVariants.{From};
 ghost use Rattle.rules.specs.Slots as slots;
 ghost use Rattle.rules.specs.Split as rule;
@@ -9,7 +9,6 @@ ghost use Rattle.split.specs.Turns.{cutting, Held, HeldOf, Spilling, Spilt, Does
 use crate::{Turn, splits};
 use rules::{Answer, Strategy};
 use store::{Counts, state};
-use words::Spot;
 
 // Record k goes to its virtual register's slot.
 pub fn spill(intervals: &[u32], work: &mut [u32], cap: usize, counts: Counts, k: usize) -> Counts
@@ -37,7 +36,7 @@ fn queue_tail(
 {
     let q = state::piece(work, cap, counts, spilled);
     let range = q.mentions;
-    let Spot::Point(n) = uses::mentions::next_use(mentions, range, p) else {
+    let Some(n) = uses::mentions::next_use(mentions, range, p) else {
         return Turn::On(counts);
     };
     splits::split_and_queue(mentions, safepoints, work, cap, counts, spilled, n)
@@ -82,7 +81,7 @@ fn spill_after(
     u: u16,
 ) -> Turn
     requires { HeldOf cap intervals.now mentions.now safepoints.now work.old counts k }
-    ensures { Does cap mentions.now safepoints.now work.old work.new counts result (rule.split_and_spill_by (cutting strategy intervals.now mentions.now safepoints.now cap) (state_of cap work.old counts) k p (Spot.Point u)) }
+    ensures { Does cap mentions.now safepoints.now work.old work.new counts result (rule.split_and_spill_by (cutting strategy intervals.now mentions.now safepoints.now cap) (state_of cap work.old counts) k p (Some u)) }
 {
     let new = counts.records;
     if cap <= new {
@@ -113,9 +112,9 @@ pub fn split_and_spill(
     let range = q.mentions;
     let last = uses::mentions::last_use(mentions, range, p);
     match last {
-        Spot::Point(u) => spill_after(
+        Some(u) => spill_after(
             strategy, intervals, mentions, safepoints, work, cap, counts, k, p, u,
         ),
-        Spot::Nothing => spill_tail(intervals, mentions, safepoints, work, cap, counts, k, p),
+        None => spill_tail(intervals, mentions, safepoints, work, cap, counts, k, p),
     }
 }

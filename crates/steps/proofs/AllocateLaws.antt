@@ -1,5 +1,6 @@
 -- Steps 2 and 3 in the work area are those of the rules.
 -- Assumes nothing.
+use Rattle.std.specs.Prelude.{Option, None, Some}
 use Prim.Native.Nat.{ℕ, ◌<◌}
 use mathlib.Core.Path.{◌≡◌, refl, sym, ap, ◌∙◌}
 use mathlib.Core.Bool.{Bool, true, false}
@@ -9,8 +10,6 @@ use lib.ListN.{length}
 use lib.Dec.{ltb}
 use Rattle.words.specs.Choose.{choose}
 use Rattle.words.specs.Packed.{part}
-use Rattle.words.specs.declared.Spot.{Spot}
-use Rattle.words.specs.declared.Spot.TheVariants.{Nothing, Point}
 use Rattle.rules.specs.declared.Answer.{Answer}
 use Rattle.rules.specs.declared.Choice.{Choice}
 use Rattle.rules.specs.declared.Choice.TheVariants.{AllBlocked, Take}
@@ -44,7 +43,7 @@ pub ends_read : (cap : ℕ) (ws : List ℕ) (c : Counts) (k a : ℕ) (q : Piece)
 ends_read cap ws c k a q g = ap (λ (x : Piece). ltb x.end a) g.is
 
 -- its partial split
-pub part_read : (cap : ℕ) (ms ws : List ℕ) (c : Counts) (k a : ℕ) (m : Mode) (q : Piece) (x : Spot) → Got cap ws c k q → x ≡ partial_place m q.start (mention_points (part q.mentions ms)) a
+pub part_read : (cap : ℕ) (ms ws : List ℕ) (c : Counts) (k a : ℕ) (m : Mode) (q : Piece) (x : Option ℕ) → Got cap ws c k q → x ≡ partial_place m q.start (mention_points (part q.mentions ms)) a
     → x ≡ partial_at m ms (piece (state_of cap ws c) k) a
 part_read cap ms ws c k a m q x g e = rw g.is at e
 
@@ -105,12 +104,12 @@ module _ (m : Mode) (ms : List ℕ) (q : Piece) (r a : ℕ) where
   pub until_after : (b : Bool) → b ≡ ltb q.end a → b ≡ true → Whole r ≡ grant_until m ms q r a
   until_after b e i = rw (← e, i) refl
 
-  module _ (b : Bool) (e : b ≡ ltb q.end a) (i : b ≡ false) (x : Spot) (f : x ≡ partial_at m ms q a) where
-    pub until_part : (p : ℕ) → x ≡ Point p → Part r p ≡ grant_until m ms q r a
+  module _ (b : Bool) (e : b ≡ ltb q.end a) (i : b ≡ false) (x : Option ℕ) (f : x ≡ partial_at m ms q a) where
+    pub until_part : (p : ℕ) → x ≡ Some p → Part r p ≡ grant_until m ms q r a
     unfolding grant_part
     until_part p j = rw (← e, i, ← f, j) refl
 
-    pub until_none : x ≡ Nothing → Refused ≡ grant_until m ms q r a
+    pub until_none : x ≡ None → Refused ≡ grant_until m ms q r a
     unfolding grant_part
     until_none j = rw (← e, i, ← f, j) refl
 
@@ -138,12 +137,12 @@ by_grant g s k (Whole r) = goes (take_register s k r)
 by_grant g s k (Part r p) = go_on (split_and_queue g s k p) (λ t. goes (take_register t k r))
 by_grant g s k Refused = allocate_blocked g s k
 
-by_part : (g : Given) (s : State) (k r : ℕ) (x : Spot) → take_until g s k r x ≡ by_grant g s k (grant_part r x)
+by_part : (g : Given) (s : State) (k r : ℕ) (x : Option ℕ) → take_until g s k r x ≡ by_grant g s k (grant_part r x)
 unfolding take_until grant_part
-by_part g s k r (Point p) = refl
-by_part g s k r Nothing = refl
+by_part g s k r (Some p) = refl
+by_part g s k r None = refl
 
-by_until : (g : Given) (s : State) (k r : ℕ) (b : Bool) (x : Spot) → choose b (goes (take_register s k r)) (take_until g s k r x) ≡ by_grant g s k (choose b (Whole r) (grant_part r x))
+by_until : (g : Given) (s : State) (k r : ℕ) (b : Bool) (x : Option ℕ) → choose b (goes (take_register s k r)) (take_until g s k r x) ≡ by_grant g s k (choose b (Whole r) (grant_part r x))
 by_until g s k r true x = refl
 by_until g s k r false x = by_part g s k r x
 

@@ -1,5 +1,6 @@
 -- Step 4 in the work area is step 4 of the rules.
 -- Assumes nothing.
+use Rattle.std.specs.Prelude.{Option, None, Some}
 use Prim.Native.Nat.{ℕ, ◌≤◌, ◌<◌}
 use mathlib.Core.Path.{◌≡◌, refl, sym, ap, ◌∙◌}
 use mathlib.Core.Bool.{Bool, true, false}
@@ -11,12 +12,9 @@ use borrow.Author.Tests.{le-leb, lt-leb}
 use Rattle.words.specs.Choose.{choose}
 use Rattle.words.specs.Packed.{part, interval_count}
 use Rattle.words.specs.declared.Class.{Class}
-use Rattle.words.specs.declared.Spot.{Spot}
-use Rattle.words.specs.declared.Spot.TheVariants.{Nothing, Point}
 use Rattle.rules.specs.declared.Answer.TheVariants.{NoRegister}
 use Rattle.rules.specs.declared.Choice.{Choice}
 use Rattle.rules.specs.declared.Choice.TheVariants.{AllBlocked, Take}
-use Rattle.rules.specs.declared.Holder.{Holder}
 use Rattle.rules.specs.declared.Mode.{Mode}
 use Rattle.rules.specs.declared.Piece.{Piece}
 use Rattle.rules.specs.declared.Pos.{Pos}
@@ -51,10 +49,10 @@ abbrev placing_of : Given → Given
 placing_of g = placing g.mode g.tables.intervals g.tables.mentions g.tables.safepoints g.capacity
 
 module _ (g : Given) where
-  cut_narrow : (s : State) (k b : ℕ) (x : Spot) → cut_at g s k b x ≡ cut_at (placing_of g) s k b x
+  cut_narrow : (s : State) (k b : ℕ) (x : Option ℕ) → cut_at g s k b x ≡ cut_at (placing_of g) s k b x
   unfolding cut_at
-  cut_narrow s k b (Point p) = queue_any g s k p ∙ sym (queue_any (placing_of g) s k p)
-  cut_narrow s k b Nothing = and_narrow g s k b ∙ sym (and_narrow (placing_of g) s k b)
+  cut_narrow s k b (Some p) = queue_any g s k p ∙ sym (queue_any (placing_of g) s k p)
+  cut_narrow s k b None = and_narrow g s k b ∙ sym (and_narrow (placing_of g) s k b)
 
   before_narrow : (s : State) (k : ℕ) (b : Pos) → cut_before g s k b ≡ cut_before (placing_of g) s k b
   unfolding cut_before
@@ -62,7 +60,7 @@ module _ (g : Given) where
   before_narrow s k (At b) = rw (cut_narrow s k b (partial_split g (piece s k) b))
   before_narrow s k Never = refl
 
-  over_narrow : (s : State) (k r : ℕ) (b : Pos) (h : Holder) → take_over_at g s k r b h ≡ take_over_at (placing_of g) s k r b h
+  over_narrow : (s : State) (k r : ℕ) (b : Pos) (h : Option ℕ) → take_over_at g s k r b h ≡ take_over_at (placing_of g) s k r b h
   over_narrow s k r b h = rw (before_narrow (take_register s k r) k b) (go (cut_before (placing_of g) (take_register s k r) k b))
     where
       go : (o : Outcome) → go_on o (λ t. spill_holder g t (piece s k).start h) ≡ go_on o (λ t. spill_holder (placing_of g) t (piece s k).start h)
@@ -184,7 +182,7 @@ module _ (cap n : ℕ) (m : Mode) (cs rs fs is ms ss ws : List ℕ) (c : Counts)
   -- ---- step 4
   -- 11: no register but scratch
   pub scratch_alone : (f : ℕ) (r : Kind) → KindOf cs is (piece (state_of cap ws c) k).interval r → r.class.count ≤ 1
-      → Did cap ms ss ws ws c (Off (NoRegister k)) (blocked_by (stepping n m cs rs fs is ms ss cap) (state_of cap ws c) k (Point f))
+      → Did cap ms ss ws ws c (Off (NoRegister k)) (blocked_by (stepping n m cs rs fs is ms ss cap) (state_of cap ws c) k (Some f))
   unfolding blocked_by outcome_of
   scratch_alone f r j l =
       let b : only_scratch (class_for cs is (state_of cap ws c) k) ≡ true = le-leb (class_for cs is (state_of cap ws c) k).count 1 (rw (kind_class r j) at l) in
@@ -193,29 +191,29 @@ module _ (cap n : ℕ) (m : Mode) (cs rs fs is ms ss ws : List ℕ) (c : Counts)
   -- the weighing
   pub more_registers : (ws' : List ℕ) (f : ℕ) (r : Kind) (z : Turn) → KindOf cs is (piece (state_of cap ws c) k).interval r → 1 < r.class.count
       → Did cap ms ss ws ws' c z (weigh (stepping n m cs rs fs is ms ss cap) (state_of cap ws c) k f (furthest_of (class_for cs is (state_of cap ws c) k) (next_use_pos (stepping n m cs rs fs is ms ss cap) (state_of cap ws c) (piece (state_of cap ws c) k))))
-      → Did cap ms ss ws ws' c z (blocked_by (stepping n m cs rs fs is ms ss cap) (state_of cap ws c) k (Point f))
+      → Did cap ms ss ws ws' c z (blocked_by (stepping n m cs rs fs is ms ss cap) (state_of cap ws c) k (Some f))
   unfolding blocked_by
   more_registers ws' f r z j l d =
       let b : only_scratch (class_for cs is (state_of cap ws c) k) ≡ false = lt-leb (class_for cs is (state_of cap ws c) k).count 1 (rw (kind_class r j) at l) in
       rw b d
 
-  module _ (u : Spot) (e : u ≡ first_use ms (piece (state_of cap ws c) k)) where
+  module _ (u : Option ℕ) (e : u ≡ first_use ms (piece (state_of cap ws c) k)) where
     -- no mention: spilled whole
-    pub unmentioned : (ws' : List ℕ) (d : Counts) → Stepping cap cs rs fs is ms ss ws c t k → u ≡ Nothing → Spilt cap is ws ws' c d k
+    pub unmentioned : (ws' : List ℕ) (d : Counts) → Stepping cap cs rs fs is ms ss ws c t k → u ≡ None → Spilt cap is ws ws' c d k
         → Did cap ms ss ws ws' c (On d) (allocate_blocked (stepping n m cs rs fs is ms ss cap) (state_of cap ws c) k)
     unfolding allocate_blocked blocked_by
     unmentioned ws' d h i s =
-        let v : first_use ms (piece (state_of cap ws c) k) ≡ Nothing = sym e ∙ i in
+        let v : first_use ms (piece (state_of cap ws c) k) ≡ None = sym e ∙ i in
         rw (v, spill_narrow (stepping n m cs rs fs is ms ss cap) (state_of cap ws c) k)
         (did cap ms ss ws ws' c (On d) _ (spilt_does cap is ms ss ws ws' c d k m.strategy (stepping_held h) s))
 
-    pub mentioned : (ws' : List ℕ) (f : ℕ) (z : Turn) → u ≡ Point f → Did cap ms ss ws ws' c z (blocked_by (stepping n m cs rs fs is ms ss cap) (state_of cap ws c) k (Point f))
+    pub mentioned : (ws' : List ℕ) (f : ℕ) (z : Turn) → u ≡ Some f → Did cap ms ss ws ws' c z (blocked_by (stepping n m cs rs fs is ms ss cap) (state_of cap ws c) k (Some f))
         → Did cap ms ss ws ws' c z (allocate_blocked (stepping n m cs rs fs is ms ss cap) (state_of cap ws c) k)
     unfolding allocate_blocked
-    mentioned ws' f z i d = let v : first_use ms (piece (state_of cap ws c) k) ≡ Point f = sym e ∙ i in rw v d
+    mentioned ws' f z i d = let v : first_use ms (piece (state_of cap ws c) k) ≡ Some f = sym e ∙ i in rw v d
 
 -- the first use, by the piece that was read
-pub first_used : (cap : ℕ) (ms ws : List ℕ) (c : Counts) (k : ℕ) (q : Piece) (u : Spot) → Got cap ws c k q → u ≡ next_use q.start (mention_points (part q.mentions ms))
+pub first_used : (cap : ℕ) (ms ws : List ℕ) (c : Counts) (k : ℕ) (q : Piece) (u : Option ℕ) → Got cap ws c k q → u ≡ next_use q.start (mention_points (part q.mentions ms))
     → u ≡ first_use ms (piece (state_of cap ws c) k)
 first_used cap ms ws c k q u g e = rw g.is at e
 

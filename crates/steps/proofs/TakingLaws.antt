@@ -1,5 +1,6 @@
 -- A register that is taken in the work area is taken in the rules.
 -- Assumes nothing.
+use Rattle.std.specs.Prelude.{Option, None, Some}
 use Prim.Native.Nat.{ℕ, ◌+◌, ◌≤◌, ◌<◌}
 use mathlib.Core.Path.{◌≡◌, refl, sym, ◌∙◌}
 use mathlib.Core.Bool.{Bool, true, false}
@@ -7,12 +8,8 @@ use mathlib.Core.List.{List, [], ◌∷◌, ◌++◌}
 use native.Mathlib.Omega.{arith}
 use lib.ListN.{length}
 use Rattle.words.specs.Packed.{part}
-use Rattle.words.specs.declared.Spot.{Spot}
-use Rattle.words.specs.declared.Spot.TheVariants.{Nothing, Point}
 use Rattle.rules.specs.declared.Answer.{Answer}
 use Rattle.rules.specs.declared.Answer.TheVariants.{FixedClash}
-use Rattle.rules.specs.declared.Holder.{Holder}
-use Rattle.rules.specs.declared.Holder.TheVariants as holder
 use Rattle.rules.specs.declared.Mode.{Mode}
 use Rattle.rules.specs.declared.Piece.{Piece}
 use Rattle.rules.specs.declared.Place.TheVariants.{Register}
@@ -74,12 +71,12 @@ module _ (cap : ℕ) (is ms ss : List ℕ) where
   -- the piece that was read can be walked
   module _ (m : Mode) (ws : List ℕ) (c : Counts) (k : ℕ) where
     -- cut where the partial split falls, or by split-and-spill
-    pub cut_part : (ws' : List ℕ) (b p : ℕ) (x : Spot) (r : Turn) → x ≡ Point p → Does cap ms ss ws ws' c r (split_and_queue (cutting From [] ms ss cap) (state_of cap ws c) k p)
+    pub cut_part : (ws' : List ℕ) (b p : ℕ) (x : Option ℕ) (r : Turn) → x ≡ Some p → Does cap ms ss ws ws' c r (split_and_queue (cutting From [] ms ss cap) (state_of cap ws c) k p)
         → Does cap ms ss ws ws' c r (cut_at (placing m is ms ss cap) (state_of cap ws c) k b x)
     unfolding cut_at
     cut_part ws' b p x r e d = record { meets = rw e (d.meets ∙ sym (queue_any (placing m is ms ss cap) (state_of cap ws c) k p)); turned = d.turned; long = d.long }
 
-    pub cut_spill : (ws' : List ℕ) (b : ℕ) (y : Strategy) (x : Spot) (r : Turn) → x ≡ Nothing → y ≡ m.strategy → Does cap ms ss ws ws' c r (split_and_spill (cutting y is ms ss cap) (state_of cap ws c) k b)
+    pub cut_spill : (ws' : List ℕ) (b : ℕ) (y : Strategy) (x : Option ℕ) (r : Turn) → x ≡ None → y ≡ m.strategy → Does cap ms ss ws ws' c r (split_and_spill (cutting y is ms ss cap) (state_of cap ws c) k b)
         → Does cap ms ss ws ws' c r (cut_at (placing m is ms ss cap) (state_of cap ws c) k b x)
     unfolding cut_at
     cut_spill ws' b y x r e f d = record { meets = rw e ((rw f at d.meets) ∙ sym (and_narrow (placing m is ms ss cap) (state_of cap ws c) k b)); turned = d.turned; long = d.long }
@@ -92,7 +89,7 @@ module _ (cap : ℕ) (is ms ss : List ℕ) where
         let e' : is_point b (mention_points (part q.mentions ms)) ≡ true = sym e ∙ y in record { meets = sym (rw (← g.is, e')); turned = off _; long = refl }
 
     -- .. or none, and is cut
-    pub no_clash : (ws' : List ℕ) (b : ℕ) (q : Piece) (t : Bool) (x : Spot) (r : Turn) → Got cap ws c k q → t ≡ is_point b (mention_points (part q.mentions ms)) → t ≡ false
+    pub no_clash : (ws' : List ℕ) (b : ℕ) (q : Piece) (t : Bool) (x : Option ℕ) (r : Turn) → Got cap ws c k q → t ≡ is_point b (mention_points (part q.mentions ms)) → t ≡ false
         → x ≡ partial_place m q.start (mention_points (part q.mentions ms)) b → Does cap ms ss ws ws' c r (cut_at (placing m is ms ss cap) (state_of cap ws c) k b x)
         → Does cap ms ss ws ws' c r (cut_before (placing m is ms ss cap) (state_of cap ws c) k (At b))
     unfolding cut_before
@@ -114,16 +111,16 @@ module _ (cap : ℕ) (is ms ss : List ℕ) where
     cut_there ws' b x r e d = rw e d
 
   -- nobody held the register, or its holder is spilled
-  module _ (y : Strategy) (ws : List ℕ) (c : Counts) (S : ℕ) (h : Holder) where
-    pub unheld : Holding cap is ms ss ws c h → h ≡ holder.Free → Does cap ms ss ws ws c (On c) (spill_holder (cutting y is ms ss cap) (state_of cap ws c) S h)
+  module _ (y : Strategy) (ws : List ℕ) (c : Counts) (S : ℕ) (h : Option ℕ) where
+    pub unheld : Holding cap is ms ss ws c h → h ≡ None → Does cap ms ss ws ws c (On c) (spill_holder (cutting y is ms ss cap) (state_of cap ws c) S h)
     unfolding outcome_of spill_holder
     unheld t e =
         record { meets = rw e; turned = on c (record { ready = t.ready; fit = t.fit; records = omega arith; intervals = refl; slack = omega arith }); long = refl }
 
-    pub holder_held : (j : ℕ) → Holding cap is ms ss ws c h → h ≡ holder.Held j → HeldOf cap is ms ss ws c j
+    pub holder_held : (j : ℕ) → Holding cap is ms ss ws c h → h ≡ Some j → HeldOf cap is ms ss ws c j
     holder_held j t e = record { ready = t.ready; fit = t.fit; inside = t.inside j e; rows = t.rows }
 
-    pub robbed : (ws' : List ℕ) (j : ℕ) (r : Turn) → h ≡ holder.Held j → Does cap ms ss ws ws' c r (split_and_spill (cutting y is ms ss cap) (state_of cap ws c) j S)
+    pub robbed : (ws' : List ℕ) (j : ℕ) (r : Turn) → h ≡ Some j → Does cap ms ss ws ws' c r (split_and_spill (cutting y is ms ss cap) (state_of cap ws c) j S)
         → Does cap ms ss ws ws' c r (spill_holder (cutting y is ms ss cap) (state_of cap ws c) S h)
     unfolding spill_holder
     robbed ws' j r e d = record { meets = rw e d.meets; turned = d.turned; long = d.long }
@@ -153,7 +150,7 @@ module _ (cap : ℕ) (is ms ss : List ℕ) where
       go t (ended d w) f = let same : d ≡ e = cc in rw same at w
       go t (refused a) f = let z : ◌≡◌ {A = ℕ} 0 1 = cc in absurd (omega arith)
 
-  module _ (m : Mode) (ws ws₁ : List ℕ) (c : Counts) (k r S : ℕ) (b : Pos) (h : Holder) (x : Turn) where
+  module _ (m : Mode) (ws ws₁ : List ℕ) (c : Counts) (k r S : ℕ) (b : Pos) (h : Option ℕ) (x : Turn) where
     pub over_popping : TakesOver cap is ms ss ws c k S h → Popping cap is ms ss ws c k
     over_popping t = record { ready = t.ready; fit = t.fit; inside = t.inside; rows = t.rows; room = t.room }
 

@@ -1,5 +1,6 @@
 -- What is weighed in the work area is what the rules weigh.
 -- Assumes nothing.
+use Rattle.std.specs.Prelude.{Option, None, Some}
 use Prim.Native.Nat.{ℕ, ◌+◌, ◌≤◌, ◌<◌}
 use mathlib.Core.Path.{◌≡◌, refl, sym, ap, ◌∙◌}
 use mathlib.Core.Bool.{Bool, true, false}
@@ -14,8 +15,6 @@ use Rattle.words.specs.Choose.{choose}
 use Rattle.rules.specs.declared.Answer.TheVariants.{OutOfRegisters}
 use Rattle.rules.specs.declared.Choice.{Choice}
 use Rattle.rules.specs.declared.Choice.TheVariants.{AllBlocked, Take}
-use Rattle.rules.specs.declared.Holder.{Holder}
-use Rattle.rules.specs.declared.Holder.TheVariants.{Free, Held}
 use Rattle.rules.specs.declared.Mode.{Mode}
 use Rattle.rules.specs.declared.Piece.{Piece}
 use Rattle.rules.specs.declared.Place.{Place}
@@ -60,7 +59,7 @@ module _ (cap : ℕ) (ws : List ℕ) (c : Counts) (r : ℕ) where
   seeking_starts = record { upto = omega arith; rest = refl }
 
   module _ (i j : ℕ) (q : Piece) (t : Bool) (ready : Ready cap ws c) (s : Seeking i) (l : i < c.active) (a : GotActive cap ws c i j) (g : Got cap ws c j q) (e : t ≡ is_register r q.place) where
-    turn : holder_in (state_of cap ws c) r (drop i (state_of cap ws c).active) ≡ choose t (Held j) (holder_in (state_of cap ws c) r (drop (i + 1) (state_of cap ws c).active))
+    turn : holder_in (state_of cap ws c) r (drop i (state_of cap ws c).active) ≡ choose t (Some j) (holder_in (state_of cap ws c) r (drop (i + 1) (state_of cap ws c).active))
     unfolding holder_in
     turn =
         let long : i < length (state_of cap ws c).active = omega (arith, active_are cap ws c ready) in
@@ -69,14 +68,14 @@ module _ (cap : ℕ) (ws : List ℕ) (c : Counts) (r : ℕ) where
     pub seeking_more : t ≡ false → Seeking (i + 1)
     seeking_more f = record { upto = omega arith; rest = sym (turn ∙ rw f) ∙ s.rest }
 
-    pub seeking_found : t ≡ true → HolderOf cap ws c r (Held j)
+    pub seeking_found : t ≡ true → HolderOf cap ws c r (Some j)
     seeking_found f =
         record {
           is = sym (rw f at turn) ∙ s.rest;
           inside = λ k d. let same : j ≡ k = cc in rw same at a.inside;
         }
 
-  pub seeking_ends : (i : ℕ) → Ready cap ws c → Seeking i → c.active ≤ i → HolderOf cap ws c r Free
+  pub seeking_ends : (i : ℕ) → Ready cap ws c → Seeking i → c.active ≤ i → HolderOf cap ws c r None
   unfolding holder_in
   seeking_ends i ready s l =
       let none : length (state_of cap ws c).active ≤ i = omega (arith, active_are cap ws c ready) in
@@ -100,7 +99,7 @@ module _ (cap : ℕ) (is ms ss : List ℕ) where
     popping_held t = record { ready = t.ready; fit = t.fit; inside = t.inside; rows = t.rows }
 
     -- ---- a steal
-    pub stolen : (ws' : List ℕ) (r : ℕ) (b : Pos) (h : Holder) (x : Turn) → HolderOf cap ws c r h → Did cap ms ss ws ws' c x (take_over_at (placing m is ms ss cap) (state_of cap ws c) k r b h)
+    pub stolen : (ws' : List ℕ) (r : ℕ) (b : Pos) (h : Option ℕ) (x : Turn) → HolderOf cap ws c r h → Did cap ms ss ws ws' c x (take_over_at (placing m is ms ss cap) (state_of cap ws c) k r b h)
         → Did cap ms ss ws ws' c x (take_over_at (placing m is ms ss cap) (state_of cap ws c) k r b (holder (state_of cap ws c) r))
     stolen ws' r b h x o d = rw o.is at d
 

@@ -1,17 +1,13 @@
 -- Facts for contracts: what a step is given, and what the code leans on at the popped record.
-use Rattle.std.specs.Prelude.{ℕ, ◌+◌, ◌≤◌, ◌<◌, ◌≡◌, List, [], ltb, length}
+use Rattle.std.specs.Prelude.{ℕ, ◌+◌, ◌≤◌, ◌<◌, ◌≡◌, List, [], ltb, length, Option, None, Some}
 use Rattle.words.specs.Choose.{choose}
 use Rattle.words.specs.declared.Class.{Class}
-use Rattle.words.specs.declared.Spot.{Spot}
-use Rattle.words.specs.declared.Spot.TheVariants.{Nothing, Point}
 use Rattle.rules.specs.declared.Piece.{Piece}
 use Rattle.rules.specs.Uses.{mention_points, next_use}
 use Rattle.words.specs.Packed.{part, class_at, interval_at, interval_count}
 use Rattle.rules.specs.declared.Answer.{Answer}
 use Rattle.rules.specs.declared.Choice.{Choice}
 use Rattle.rules.specs.declared.Choice.TheVariants.{AllBlocked, Take}
-use Rattle.rules.specs.declared.Holder.{Holder}
-use Rattle.rules.specs.declared.Holder.TheVariants.{Held}
 use Rattle.rules.specs.declared.Mode.{Mode}
 use Rattle.rules.specs.declared.Pos.{Pos}
 use Rattle.rules.specs.declared.Pos.TheVariants.{Blocked, At, Never}
@@ -48,7 +44,7 @@ abbrev pub placing : Mode → List ℕ → List ℕ → List ℕ → ℕ → Giv
 placing m is ms ss cap = stepping 0 m [] [] [] is ms ss cap
 
 -- the first use of a piece
-abbrev pub first_use : List ℕ → Piece → Spot
+abbrev pub first_use : List ℕ → Piece → Option ℕ
 first_use ms q = next_use q.start (mention_points (part q.mentions ms))
 
 -- of sound tables: every interval has a class, and every class its registers, with their fragments
@@ -102,29 +98,29 @@ pub record Took (cap : ℕ) (ws ws' : List ℕ) (c d : Counts) (k r : ℕ) : Typ
   pub after : After cap ws ws' c d (take_register (state_of cap ws c) k r) c.records c.queued (c.active + 1)
 
 -- the active piece of register r was found
-pub record HolderOf (cap : ℕ) (ws : List ℕ) (c : Counts) (r : ℕ) (h : Holder) : Type 0 where
+pub record HolderOf (cap : ℕ) (ws : List ℕ) (c : Counts) (r : ℕ) (h : Option ℕ) : Type 0 where
   pub is : h ≡ holder (state_of cap ws c) r
-  pub inside : (j : ℕ) → h ≡ Held j → j < c.records
+  pub inside : (j : ℕ) → h ≡ Some j → j < c.records
 
 -- the area is ready for what is done to a holder
-pub record Holding (cap : ℕ) (is ms ss ws : List ℕ) (c : Counts) (h : Holder) : Type 0 where
+pub record Holding (cap : ℕ) (is ms ss ws : List ℕ) (c : Counts) (h : Option ℕ) : Type 0 where
   pub ready : Ready cap ws c
   pub fit : Fit ms ss (state_of cap ws c).pieces
   pub rows : c.intervals ≡ interval_count is
-  pub inside : (j : ℕ) → h ≡ Held j → j < c.records
+  pub inside : (j : ℕ) → h ≡ Some j → j < c.records
 
 -- record k, which starts at S, can take a register from holder h
-pub record TakesOver (cap : ℕ) (is ms ss ws : List ℕ) (c : Counts) (k S : ℕ) (h : Holder) : Type 0 where
+pub record TakesOver (cap : ℕ) (is ms ss ws : List ℕ) (c : Counts) (k S : ℕ) (h : Option ℕ) : Type 0 where
   pub ready : Ready cap ws c
   pub fit : Fit ms ss (state_of cap ws c).pieces
   pub inside : k < c.records
   pub rows : c.intervals ≡ interval_count is
   pub room : c.queued + c.active < c.records
   pub starts : S ≡ (piece (state_of cap ws c) k).start
-  pub held : (j : ℕ) → h ≡ Held j → j < c.records
+  pub held : (j : ℕ) → h ≡ Some j → j < c.records
 
 -- step 4's "take the register", whose first fragment start is b and whose holder is h
-abbrev pub take_over_at : Given → State → ℕ → ℕ → Pos → Holder → Outcome
+abbrev pub take_over_at : Given → State → ℕ → ℕ → Pos → Option ℕ → Outcome
 take_over_at g s k r b h = go_on (cut_before g (take_register s k r) k b) (λ t. spill_holder g t (piece s k).start h)
 
 -- step 4's weighing, where B gives each register its first fragment start
@@ -189,7 +185,7 @@ pub record Parting (cap : ℕ) (ms ss ws : List ℕ) (c : Counts) (k : ℕ) : Ty
   pub room : c.queued + c.active < c.records
 
 -- the place of a partial split of a piece at a
-abbrev pub partial_at : Mode → List ℕ → Piece → ℕ → Spot
+abbrev pub partial_at : Mode → List ℕ → Piece → ℕ → Option ℕ
 partial_at m ms q a = partial_place m q.start (mention_points (part q.mentions ms)) a
 
 -- step 3's split at p, and the register taken for what is left
@@ -198,9 +194,9 @@ take_part ms ss cap s k r p = go_on (split_and_queue (cutting From [] ms ss cap)
 
 -- ---- steps 2 and 3
 -- up to a partial split, if there is one
-unfoldable pub grant_part : ℕ → Spot → Grant
-grant_part r (Point p) = Part r p
-grant_part r Nothing = Refused
+unfoldable pub grant_part : ℕ → Option ℕ → Grant
+grant_part r (Some p) = Part r p
+grant_part r None = Refused
 
 -- a register that is free until a: whole where that is after the end
 abbrev pub grant_until : Mode → List ℕ → Piece → ℕ → ℕ → Grant

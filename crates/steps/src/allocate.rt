@@ -9,7 +9,6 @@ use crate::{Grant, Tried, taking};
 use rules::{Choice, Mode, Pos};
 use split::{Turn, splits};
 use store::{Counts, state};
-use words::Spot;
 
 // Record k ends before a.
 fn ends_before(work: &[u32], cap: usize, counts: Counts, k: usize, a: u16) -> bool
@@ -31,7 +30,7 @@ fn partial_at(
     counts: Counts,
     k: usize,
     a: u16,
-) -> Spot
+) -> Option<u16>
     requires { Held cap mentions.now safepoints.now work.now counts k }
     ensures { result ≡ partial_at mode mentions.now (piece (state_of cap work.now counts) k) a }
 {
@@ -79,7 +78,7 @@ fn granted_until(
     if ends_before(work, cap, counts, k, a) {
         return Grant::Whole(r);
     }
-    let Spot::Point(p) = partial_at(mode, mentions, safepoints, work, cap, counts, k, a) else {
+    let Some(p) = partial_at(mode, mentions, safepoints, work, cap, counts, k, a) else {
         return Grant::Refused;
     };
     Grant::Part { register: r, at: p }

@@ -1,5 +1,5 @@
 // Step 4: no register is free for long enough.
-ghost use Rattle.std.specs.Prelude.{◌≡◌, ℕ, ◌+◌, ◌*◌, ◌<◌, ◌≤◌, length, replicate};
+ghost use Rattle.std.specs.Prelude.{◌≡◌, ℕ, ◌+◌, ◌*◌, ◌<◌, ◌≤◌, length, replicate, Some};
 ghost use Rattle.words.specs.Packed.{class_at, interval_at, interval_count};
 ghost use Rattle.rules.specs.declared.Choice.TheVariants.{AllBlocked};
 ghost use Rattle.rules.specs.declared.Pos.TheVariants.{Never};
@@ -17,7 +17,7 @@ use choice::{held, positions, rows};
 use rules::{Answer, Choice, Mode, Pos};
 use split::{Turn, spills};
 use store::{Counts, state};
-use words::{Class, Spot, read};
+use words::{Class, read};
 
 const INTERVAL_WORDS: usize = 4;
 
@@ -184,7 +184,7 @@ fn contend(
     f: u16,
 ) -> Turn
     requires { Stepping cap classes.now registers.now fragments.now intervals.now mentions.now safepoints.now work.old counts tracker k }
-    ensures { Did cap mentions.now safepoints.now work.old work.new counts result (rule.blocked_by (stepping instructions mode classes.now registers.now fragments.now intervals.now mentions.now safepoints.now cap) (state_of cap work.old counts) k (Spot.Point f)) }
+    ensures { Did cap mentions.now safepoints.now work.old work.new counts result (rule.blocked_by (stepping instructions mode classes.now registers.now fragments.now intervals.now mentions.now safepoints.now cap) (state_of cap work.old counts) k (Some f)) }
 {
     let kind = kind_of(classes, intervals, work, cap, counts, k);
     let class = kind.class;
@@ -219,7 +219,7 @@ fn first_use(
     cap: usize,
     counts: Counts,
     k: usize,
-) -> Spot
+) -> Option<u16>
     requires { Held cap mentions.now safepoints.now work.now counts k }
     ensures { result ≡ first_use mentions.now (piece (state_of cap work.now counts) k) }
 {
@@ -247,7 +247,7 @@ pub fn allocate_blocked_reg(
     requires { Stepping cap classes.now registers.now fragments.now intervals.now mentions.now safepoints.now work.old counts tracker k }
     ensures { Did cap mentions.now safepoints.now work.old work.new counts result (rule.allocate_blocked (stepping instructions mode classes.now registers.now fragments.now intervals.now mentions.now safepoints.now cap) (state_of cap work.old counts) k) }
 {
-    let Spot::Point(f) = first_use(mentions, safepoints, work, cap, counts, k) else {
+    let Some(f) = first_use(mentions, safepoints, work, cap, counts, k) else {
         return Turn::On(spills::spill(intervals, work, cap, counts, k));
     };
     contend(

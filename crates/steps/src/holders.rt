@@ -4,7 +4,7 @@ ghost use Rattle.rules.specs.Steps.{is_register};
 ghost use Rattle.store.specs.StateOf.{Ready};
 ghost use Rattle.steps.specs.Stepping.{HolderOf};
 
-use rules::{Holder, Place};
+use rules::Place;
 use store::{Counts, state};
 
 fn is_register(r: u16, place: Place) -> bool
@@ -18,7 +18,7 @@ fn is_register(r: u16, place: Place) -> bool
 }
 
 // The first active record in register r.
-pub(crate) fn holder_of(work: &[u32], cap: usize, counts: Counts, r: u16) -> Holder
+pub(crate) fn holder_of(work: &[u32], cap: usize, counts: Counts, r: u16) -> Option<u16>
     requires { Ready cap work.now counts }
     ensures { HolderOf cap work.now counts r result }
 {
@@ -29,9 +29,9 @@ pub(crate) fn holder_of(work: &[u32], cap: usize, counts: Counts, r: u16) -> Hol
         let q = state::piece(work, cap, counts, j);
         let place = q.place;
         if is_register(r, place) {
-            return Holder::Held(j as u16);
+            return Some(j as u16);
         }
         i += 1;
     }
-    Holder::Free
+    None
 }

@@ -5,10 +5,9 @@ ghost use Rattle.store.specs.StateOf.{state_of};
 ghost use Rattle.split.specs.Turns.{cutting, HeldOf, Does};
 ghost use Rattle.steps.specs.Stepping.{placing, Popping, Taking, Took, Holding, TakesOver, take_over_at, Did};
 
-use rules::{Answer, Holder, Mode, Place, Pos, Strategy};
+use rules::{Answer, Mode, Place, Pos, Strategy};
 use split::{Turn, spills, splits};
 use store::{Counts, state};
-use words::Spot;
 
 // Record k takes register r, and is active.
 pub(crate) fn take_register(
@@ -36,15 +35,15 @@ fn cut_at(
     counts: Counts,
     k: usize,
     b: u16,
-    place: Spot,
+    place: Option<u16>,
 ) -> Turn
     requires { HeldOf cap intervals.now mentions.now safepoints.now work.old counts k }
     ensures { Does cap mentions.now safepoints.now work.old work.new counts result (cut_at (placing mode intervals.now mentions.now safepoints.now cap) (state_of cap work.old counts) k b place) }
 {
     let strategy = mode.strategy;
     match place {
-        Spot::Point(p) => splits::split_and_queue(mentions, safepoints, work, cap, counts, k, p),
-        Spot::Nothing => spills::split_and_spill(
+        Some(p) => splits::split_and_queue(mentions, safepoints, work, cap, counts, k, p),
+        None => spills::split_and_spill(
             strategy, intervals, mentions, safepoints, work, cap, counts, k, b,
         ),
     }
@@ -110,14 +109,14 @@ fn spill_holder(
     cap: usize,
     counts: Counts,
     start: u16,
-    holder: Holder,
+    holder: Option<u16>,
 ) -> Turn
     requires { Holding cap intervals.now mentions.now safepoints.now work.old counts holder }
     ensures { Does cap mentions.now safepoints.now work.old work.new counts result (spill_holder (cutting strategy intervals.now mentions.now safepoints.now cap) (state_of cap work.old counts) start holder) }
 {
     match holder {
-        Holder::Free => Turn::On(counts),
-        Holder::Held(h) => spills::split_and_spill(
+        None => Turn::On(counts),
+        Some(h) => spills::split_and_spill(
             strategy, intervals, mentions, safepoints, work, cap, counts, h as usize, start,
         ),
     }
@@ -158,7 +157,7 @@ pub(crate) fn take_over(
     r: u16,
     start: u16,
     block: Pos,
-    holder: Holder,
+    holder: Option<u16>,
 ) -> Turn
     requires { TakesOver cap intervals.now mentions.now safepoints.now work.old counts k start holder }
     ensures { Did cap mentions.now safepoints.now work.old work.new counts result (take_over_at (placing mode intervals.now mentions.now safepoints.now cap) (state_of cap work.old counts) k r block holder) }

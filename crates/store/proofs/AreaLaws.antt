@@ -1,5 +1,6 @@
 -- The loops that fill the work area and the result area: the invariant of each, how it starts, goes on and ends. The intervals' table is t.
 -- Assumes nothing.
+use Rattle.std.specs.Prelude.{None}
 use Prim.Native.Nat.{ℕ, zero, suc, ◌+◌, ◌*◌, ◌≤◌, ◌<◌}
 use mathlib.Core.Path.{◌≡◌, refl, sym, ap, ◌∙◌}
 use mathlib.Core.List.{List, [], ◌∷◌, ◌++◌}
@@ -15,7 +16,6 @@ use Rattle.words.specs.declared.Record.{Record}
 use Rattle.words.proofs.Rows.{sets_after}
 use Rattle.rules.specs.declared.Piece.{Piece}
 use Rattle.rules.specs.declared.Place.TheVariants.{Nowhere}
-use Rattle.rules.specs.declared.Home.TheVariants.{Unspilled}
 use Rattle.rules.specs.Room.{capacity}
 use Rattle.rules.specs.State.{State, no_piece, piece, enqueue}
 use Rattle.rules.specs.Run.{whole_interval, unqueued, enqueue_all, begin}
@@ -124,19 +124,19 @@ module _ (cap : ℕ) (t d ws ws₁ ws₂ : List ℕ) (k : ℕ) (q : Piece) where
   -- one interval more
   pub filling_more : Loads cap t d → Filling cap t d ws k → k < interval_count t → Whole t k q
       → Becomes cap ws ws₁ (cells.with_pieces (set (cells cap ws).pieces k q) (cells cap ws))
-      → Becomes cap ws₁ ws₂ (cells.with_homes (set (cells cap ws₁).homes k Unspilled) (cells cap ws₁))
+      → Becomes cap ws₁ ws₂ (cells.with_homes (set (cells cap ws₁).homes k None) (cells cap ws₁))
       → Filling cap t d ws₂ (k + 1)
   filling_more l f h w b e =
       let in_pieces : k < length (cells cap ws).pieces = omega (arith, l.inside, length_pieces cap ws) in
       let in-homes : k < length (cells cap ws).homes = omega (arith, l.inside, length_homes cap ws) in
       let ps : (cells cap ws₂).pieces ≡ set (cells cap ws).pieces k q = ap (λ (x : Cells). x.pieces) e.is ∙ ap (λ (x : Cells). x.pieces) b.is in
-      let hs : (cells cap ws₂).homes ≡ set (cells cap ws).homes k Unspilled = ap (λ (x : Cells). x.homes) e.is ∙ ap (λ (x : Cells). set x.homes k Unspilled) b.is in
+      let hs : (cells cap ws₂).homes ≡ set (cells cap ws).homes k None = ap (λ (x : Cells). x.homes) e.is ∙ ap (λ (x : Cells). set x.homes k None) b.is in
       let long : length ws₂ ≡ length d = e.room ∙ b.room ∙ f.long in
       record {
         filled =
             record {
               pieces = rw (add-one k) (ap (take (suc k)) ps ∙ take-suc-set (cells cap ws).pieces k q in_pieces ∙ rw (f.filled.pieces, w.is) (sym (tab_snoc k (whole_interval t))));
-              homes = rw (add-one k) (ap (take (suc k)) hs ∙ take-suc-set (cells cap ws).homes k Unspilled in-homes ∙ rw f.filled.homes (sym (replicate_snoc k Unspilled)));
+              homes = rw (add-one k) (ap (take (suc k)) hs ∙ take-suc-set (cells cap ws).homes k None in-homes ∙ rw f.filled.homes (sym (replicate_snoc k None)));
               long = long;
             };
         upto = omega arith;
@@ -161,7 +161,7 @@ unqueued_sane t =
       owners = each_tab _ (interval_count t) (whole_interval t) (λ k l. l);
       named = none;
       actives = none;
-      homes = length-replicate (interval_count t) Unspilled;
+      homes = length-replicate (interval_count t) None;
       slots = omega arith;
     }
 

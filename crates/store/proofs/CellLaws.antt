@@ -1,5 +1,6 @@
 -- The laws of the cells: what a store, and a heap that was lent and came back, do to the four lists.
 -- Assumes nothing.
+use Rattle.std.specs.Prelude.{Option, None}
 use Prim.Native.Nat.{ℕ, zero, suc, ◌+◌, ◌-◌, ◌*◌, ◌/◌, ◌≤◌, ◌<◌}
 use mathlib.Core.Path.{◌≡◌, refl, sym, ap, ◌∙◌}
 use mathlib.Core.List.{List, ◌∷◌, ◌++◌, append-nil}
@@ -13,8 +14,6 @@ use Rattle.words.specs.Packed.{record_row, range_word}
 use Rattle.words.specs.declared.Record.{Record}
 use Rattle.words.proofs.Rows.{length_tab, get_d_tab}
 use Rattle.rules.specs.declared.Piece.{Piece}
-use Rattle.rules.specs.declared.Home.{Home}
-use Rattle.rules.specs.declared.Home.TheVariants.{Unspilled}
 use Rattle.rules.specs.State.{no_piece, insert}
 use Rattle.queue.specs.Heap.{Ord, sort, Open, Filled, Pushed, Popped}
 use Rattle.store.proofs.WordLaws.{home_back, piece_back}
@@ -61,9 +60,9 @@ module _ (cap : ℕ) (ws : List ℕ) (k : ℕ) (h : k < cap) where
   unfolding cells
   piece_is = sym (get_d_tab cap k _ no_piece h)
 
-  pub home_is : home_in (get_or ws (cap * 5 + k) 0) ≡ get_or (cells cap ws).homes k Unspilled
+  pub home_is : home_in (get_or ws (cap * 5 + k) 0) ≡ get_or (cells cap ws).homes k None
   unfolding cells
-  home_is = sym (get_d_tab cap k _ Unspilled h)
+  home_is = sym (get_d_tab cap k _ None h)
 
   pub active_is : get_or ws (cap * 6 + k) 0 ≡ get_or (cells cap ws).active k 0
   unfolding cells
@@ -96,7 +95,7 @@ cells_by : (c d : Cells) → c.pieces ≡ d.pieces → c.heap ≡ d.heap → c.h
 cells_by c d p h o a = λ i. record { pieces = p i; heap = h i; homes = o i; active = a i }
 
 -- a word of the homes is stored
-pub home_put : (cap : ℕ) (ws : List ℕ) (k v : ℕ) (h : Home) → At cap ws k → HomePacked h v
+pub home_put : (cap : ℕ) (ws : List ℕ) (k v : ℕ) (h : Option ℕ) → At cap ws k → HomePacked h v
     → Becomes cap ws (set ws (cap * 5 + k) v) (with_homes (set (cells cap ws).homes k h) (cells cap ws))
 unfolding cells
 home_put cap ws k v h a p =
@@ -307,7 +306,7 @@ pub piece_got : (cap : ℕ) (ws : List ℕ) (k : ℕ) (r : Piece) → At cap ws 
 piece_got cap ws k r a u = record { is = u.is ∙ piece_is cap ws k a.inside; small = u.small }
 
 -- the home at k, from its word
-pub home_got : (cap : ℕ) (ws : List ℕ) (k : ℕ) (r : Home) → At cap ws k → r ≡ home_in (get_or ws (cap * 5 + k) 0) → r ≡ get_or (cells cap ws).homes k Unspilled
+pub home_got : (cap : ℕ) (ws : List ℕ) (k : ℕ) (r : Option ℕ) → At cap ws k → r ≡ home_in (get_or ws (cap * 5 + k) 0) → r ≡ get_or (cells cap ws).homes k None
 home_got cap ws k r a e = e ∙ home_is cap ws k a.inside
 
 -- the active record at k, from its word

@@ -1,5 +1,6 @@
 -- Each operation on a state keeps it sane. Pure laws of `rules`' state: nothing here speaks of words or cells.
 -- Assumes nothing.
+use Rattle.std.specs.Prelude.{Option, None, Some}
 use Prim.Native.Nat.{ℕ, zero, suc, ◌+◌, ◌*◌, ◌^◌, ◌≤◌, ◌<◌}
 use mathlib.Core.Path.{◌≡◌, refl, ap}
 use mathlib.Core.Bool.{Bool, true, false}
@@ -10,8 +11,6 @@ use lib.Dec.{leb}
 use lib.ListN.{length, get_or, set, length-set, length-append}
 use Rattle.words.specs.Choose.{choose}
 use Rattle.rules.specs.declared.Piece.{Piece}
-use Rattle.rules.specs.declared.Home.{Home}
-use Rattle.rules.specs.declared.Home.TheVariants.{Unspilled, Spilled}
 use Rattle.rules.specs.State.{State, with_pieces, with_queue, with_active, with_homes, key, record_of_key, insert, enqueue}
 use Rattle.rules.specs.Slots.{round_up}
 use Rattle.store.specs.StateOf.{Each, none, more, spilled_in, Sane}
@@ -101,27 +100,27 @@ module _ (n : ℕ) (s : State) (z : Sane n s) where
   sane_active js e = record { owners = z.owners; named = z.named; actives = e; homes = z.homes; slots = z.slots }
 
 -- one home more has a slot
-spilled_more : (hs : List Home) (v t : ℕ) → v < length hs → get_or hs v Unspilled ≡ Unspilled → spilled_in (set hs v (Spilled t)) ≡ suc (spilled_in hs)
+spilled_more : (hs : List (Option ℕ)) (v t : ℕ) → v < length hs → get_or hs v None ≡ None → spilled_in (set hs v (Some t)) ≡ suc (spilled_in hs)
 unfolding spilled_in
 spilled_more [] v t h e = absurd (not-suc-le-zero h)
-spilled_more (Unspilled ∷ hs) zero t h e = refl
-spilled_more (Spilled u ∷ hs) zero t h e = cc
-spilled_more (Unspilled ∷ hs) (suc v) t h e = spilled_more hs v t (le_of_suc-le-suc h) e
-spilled_more (Spilled u ∷ hs) (suc v) t h e = ap suc (spilled_more hs v t (le_of_suc-le-suc h) e)
+spilled_more (None ∷ hs) zero t h e = refl
+spilled_more (Some u ∷ hs) zero t h e = cc
+spilled_more (None ∷ hs) (suc v) t h e = spilled_more hs v t (le_of_suc-le-suc h) e
+spilled_more (Some u ∷ hs) (suc v) t h e = ap suc (spilled_more hs v t (le_of_suc-le-suc h) e)
 
 -- at most all homes have a slot; fewer where one has none
-spilled_most : (hs : List Home) → spilled_in hs ≤ length hs
+spilled_most : (hs : List (Option ℕ)) → spilled_in hs ≤ length hs
 unfolding spilled_in
 spilled_most [] = omega arith
-spilled_most (Unspilled ∷ hs) = let ih = spilled_most hs in omega arith
-spilled_most (Spilled t ∷ hs) = let ih = spilled_most hs in omega arith
+spilled_most (None ∷ hs) = let ih = spilled_most hs in omega arith
+spilled_most (Some t ∷ hs) = let ih = spilled_most hs in omega arith
 
-pub spilled_less : (hs : List Home) (v : ℕ) → v < length hs → get_or hs v Unspilled ≡ Unspilled → spilled_in hs < length hs
-spilled_less hs v h e = omega (arith, spilled_more hs v 0 h e, spilled_most (set hs v (Spilled 0)), length-set hs v (Spilled 0))
+pub spilled_less : (hs : List (Option ℕ)) (v : ℕ) → v < length hs → get_or hs v None ≡ None → spilled_in hs < length hs
+spilled_less hs v h e = omega (arith, spilled_more hs v 0 h e, spilled_most (set hs v (Some 0)), length-set hs v (Some 0))
 
 -- a virtual register is given its slot
-pub sane_home : (n : ℕ) (s : State) (v t total : ℕ) → Sane n s → v < n → get_or s.homes v Unspilled ≡ Unspilled → total ≤ 8 * spilled_in s.homes + 8
-    → Sane n (with_homes (set s.homes v (Spilled t)) total s)
+pub sane_home : (n : ℕ) (s : State) (v t total : ℕ) → Sane n s → v < n → get_or s.homes v None ≡ None → total ≤ 8 * spilled_in s.homes + 8
+    → Sane n (with_homes (set s.homes v (Some t)) total s)
 sane_home n s v t total z h e l =
     record {
       owners = z.owners;

@@ -1,5 +1,6 @@
 -- From cells to states: what each primitive does to the state that the cells hold.
 -- Assumes nothing.
+use Rattle.std.specs.Prelude.{Option, None, Some}
 use Prim.Native.Nat.{ℕ, ◌+◌, ◌-◌, ◌*◌, ◌/◌, ◌%◌, ◌^◌, ◌≤◌, ◌<◌}
 use mathlib.Core.Path.{◌≡◌, refl, sym, ap, subst, ◌∙◌}
 use mathlib.Core.List.{List, [], ◌∷◌, ◌++◌}
@@ -10,8 +11,6 @@ use lib.Seq.{length-take-le, take-set-lt, take-suc-set, get_or-take}
 use Rattle.rules.specs.declared.Piece.{Piece}
 use Rattle.rules.specs.declared.Place.{Place}
 use Rattle.rules.specs.declared.Place.TheVariants.{Slot}
-use Rattle.rules.specs.declared.Home.{Home}
-use Rattle.rules.specs.declared.Home.TheVariants.{Unspilled, Spilled}
 use Rattle.rules.specs.State.{State, with_pieces, with_queue, with_active, with_homes, with_place, no_piece, piece, put, key, enqueue}
 use Rattle.rules.specs.Slots.{round_up, spill_to}
 use Rattle.queue.specs.Heap.{Ord, sort}
@@ -197,15 +196,15 @@ module _ (cap : ℕ) (ws ws' : List ℕ) (c : Counts) where
       is = unfold state_of in ap (λ (y : Cells). state_in y (with_queued (c.queued - 1) c)) b.is
 
   -- a store below the intervals gives that virtual register its slot
-  pub home_given : (v t total : ℕ) → Ready cap ws c → v < c.intervals → get_or (state_of cap ws c).homes v Unspilled ≡ Unspilled → total ≤ 8 * spilled_in (state_of cap ws c).homes + 8
-      → Becomes cap ws ws' (cells.with_homes (set (cells cap ws).homes v (Spilled t)) (cells cap ws))
-      → After cap ws ws' c (with_total total c) (with_homes (set (state_of cap ws c).homes v (Spilled t)) total (state_of cap ws c)) c.records c.queued c.active
+  pub home_given : (v t total : ℕ) → Ready cap ws c → v < c.intervals → get_or (state_of cap ws c).homes v None ≡ None → total ≤ 8 * spilled_in (state_of cap ws c).homes + 8
+      → Becomes cap ws ws' (cells.with_homes (set (cells cap ws).homes v (Some t)) (cells cap ws))
+      → After cap ws ws' c (with_total total c) (with_homes (set (state_of cap ws c).homes v (Some t)) total (state_of cap ws c)) c.records c.queued c.active
   home_given v t total r h e l b =
       after_by (with_total total c) _ r is (sane_home c.intervals (state_of cap ws c) v t total r.sane h e l)
       (same_order _ b.is refl r.ordered) b.room (omega arith) r.records r.held refl
     where
-      is : state_of cap ws' (with_total total c) ≡ with_homes (set (state_of cap ws c).homes v (Spilled t)) total (state_of cap ws c)
-      is = unfold state_of in ap (λ (y : Cells). state_in y (with_total total c)) b.is ∙ rw (take-set-lt c.intervals (cells cap ws).homes v (Spilled t) h)
+      is : state_of cap ws' (with_total total c) ≡ with_homes (set (state_of cap ws c).homes v (Some t)) total (state_of cap ws c)
+      is = unfold state_of in ap (λ (y : Cells). state_in y (with_total total c)) b.is ∙ rw (take-set-lt c.intervals (cells cap ws).homes v (Some t) h)
 
 -- one state function after another
 pub after_then : (cap : ℕ) (ws ws₁ ws₂ : List ℕ) (c d e : Counts) (s t : State) (m q a m' q' a' : ℕ) → After cap ws ws₁ c d s m q a → After cap ws₁ ws₂ d e t m' q' a'
@@ -255,12 +254,12 @@ module _ (cap : ℕ) (ws : List ℕ) (c : Counts) (k v : ℕ) where
   total_is = refl
 
   -- the home at v is virtual register v's
-  home_of : v < c.intervals → get_or (cells cap ws).homes v Unspilled ≡ get_or (state_of cap ws c).homes v Unspilled
+  home_of : v < c.intervals → get_or (cells cap ws).homes v None ≡ get_or (state_of cap ws c).homes v None
   unfolding state_of
-  home_of h = sym (get_or-take c.intervals (cells cap ws).homes v Unspilled h)
+  home_of h = sym (get_or-take c.intervals (cells cap ws).homes v None h)
 
   -- the home at the interval of record k is its virtual register's
-  pub home_found : (q : Piece) (h : Home) → Got cap ws c k q → v ≡ q.interval → h ≡ get_or (cells cap ws).homes v Unspilled → HomeOf cap ws c k v h
+  pub home_found : (q : Piece) (h : Option ℕ) → Got cap ws c k q → v ≡ q.interval → h ≡ get_or (cells cap ws).homes v None → HomeOf cap ws c k v h
   home_found q h g e f =
       record {
         owner = e ∙ ap (λ (x : Piece). x.interval) g.is;
@@ -269,7 +268,7 @@ module _ (cap : ℕ) (ws : List ℕ) (c : Counts) (k v : ℕ) where
       }
 
   -- a home that is unspilled
-  pub homeless : (h : Home) → HomeOf cap ws c k v h → h ≡ Unspilled → Homeless cap ws c k v
+  pub homeless : (h : Option ℕ) → HomeOf cap ws c k v h → h ≡ None → Homeless cap ws c k v
   homeless h g u = record { owner = g.owner; within = g.within; unspilled = sym g.is ∙ u }
 
   -- 4,095 others at most have a slot
@@ -286,9 +285,9 @@ module _ (cap : ℕ) (ws : List ℕ) (c : Counts) (k v : ℕ) where
 
   -- the first spill: the home is given, then the record is put into the slot
   pub first_spilled : (ws₁ ws₂ : List ℕ) (d : Counts) (l t z m q a : ℕ) → Homeless cap ws c k v → Rounded c.total l t → Size l z
-      → After cap ws ws₁ c d (with_homes (set (state_of cap ws c).homes v (Spilled t)) (t + z) (state_of cap ws c)) m q a
+      → After cap ws ws₁ c d (with_homes (set (state_of cap ws c).homes v (Some t)) (t + z) (state_of cap ws c)) m q a
       → After cap ws₁ ws₂ d d (put (state_of cap ws₁ d) k (Slot t)) d.records d.queued d.active
-      → After cap ws ws₂ c d (spill_to (state_of cap ws c) k (2 ^ l) Unspilled) m q a
+      → After cap ws ws₂ c d (spill_to (state_of cap ws c) k (2 ^ l) None) m q a
   unfolding spill_to
   first_spilled ws₁ ws₂ d l t z m q a h p e f g =
       record {
@@ -302,14 +301,14 @@ module _ (cap : ℕ) (ws : List ℕ) (c : Counts) (k v : ℕ) where
       }
 
   -- a spill, by the home of record k's virtual register
-  module _ (ws' : List ℕ) (d : Counts) (z m n a : ℕ) (h : Home) where
-    pub spilled_first : h ≡ Unspilled → After cap ws ws' c d (spill_to (state_of cap ws c) k z Unspilled) m n a → After cap ws ws' c d (spill_to (state_of cap ws c) k z h) m n a
+  module _ (ws' : List ℕ) (d : Counts) (z m n a : ℕ) (h : Option ℕ) where
+    pub spilled_first : h ≡ None → After cap ws ws' c d (spill_to (state_of cap ws c) k z None) m n a → After cap ws ws' c d (spill_to (state_of cap ws c) k z h) m n a
     spilled_first u b = rw u b
 
-    pub spilled_again : (t : ℕ) → h ≡ Spilled t → After cap ws ws' c d (put (state_of cap ws c) k (Slot t)) m n a → After cap ws ws' c d (spill_to (state_of cap ws c) k z h) m n a
+    pub spilled_again : (t : ℕ) → h ≡ Some t → After cap ws ws' c d (put (state_of cap ws c) k (Slot t)) m n a → After cap ws ws' c d (spill_to (state_of cap ws c) k z h) m n a
     unfolding spill_to
     spilled_again t u b = rw u b
 
     pub spilled_by : HomeOf cap ws c k v h → After cap ws ws' c d (spill_to (state_of cap ws c) k z h) m n a
-        → After cap ws ws' c d (spill_to (state_of cap ws c) k z (get_or (state_of cap ws c).homes (piece (state_of cap ws c) k).interval Unspilled)) m n a
+        → After cap ws ws' c d (spill_to (state_of cap ws c) k z (get_or (state_of cap ws c).homes (piece (state_of cap ws c) k).interval None)) m n a
     spilled_by g b = rw (← g.owner, ← g.is) b

@@ -1,5 +1,6 @@
 -- What a piece's and a home's words read as, and that what is packed is read back.
 -- Assumes nothing.
+use Rattle.std.specs.Prelude.{Option, None, Some}
 use Prim.Native.Nat.{ℕ, ◌+◌, ◌/◌, ◌%◌, ◌^◌, ◌<◌}
 use mathlib.Core.Path.{◌≡◌, refl, sym, ap, ◌∙◌}
 use native.Mathlib.Omega.{arith}
@@ -13,8 +14,6 @@ use Rattle.words.proofs.Packed.{record_back, range_back}
 use Rattle.rules.specs.declared.Piece.{Piece}
 use Rattle.rules.specs.declared.Place.{Place}
 use Rattle.rules.specs.declared.Place.TheVariants.{Nowhere, Register, Slot}
-use Rattle.rules.specs.declared.Home.{Home}
-use Rattle.rules.specs.declared.Home.TheVariants.{Unspilled, Spilled}
 use Rattle.rules.specs.Call.{kind_of, number_of, record_for}
 use Rattle.store.specs.Cells.{place_of, piece_in, Packable, Unpacked, home_in, home_word, HomePacked}
 
@@ -82,28 +81,28 @@ piece_back q r e z a b c d =
     ap (λ (x : Record). record { interval = x.interval; place = place_of x.kind x.number; start = x.first; end = x.last; mentions = range_in (range_word q.mentions); safepoints = range_in (range_word q.safepoints) }) f
     ∙ rw (place_back q.place, range_back q.mentions a b, range_back q.safepoints c d)
 
-pub home_back : (h : Home) (r : ℕ) → HomePacked h r → home_in r ≡ h
+pub home_back : (h : Option ℕ) (r : ℕ) → HomePacked h r → home_in r ≡ h
 unfolding home_in home_word
 home_back h r p = ap home_in p.is ∙ by h (omega (arith, p.is, p.small))
   where
-    by : (h : Home) → home_word h < 131072 → home_in (home_word h) ≡ h
-    by Unspilled l = refl
-    by (Spilled t) l = let e : (65536 + t) / 65536 ≡ 1 = omega arith in let f : (65536 + t) % 65536 ≡ t = omega arith in simp (e, f)
+    by : (h : Option ℕ) → home_word h < 131072 → home_in (home_word h) ≡ h
+    by None l = refl
+    by (Some t) l = let e : (65536 + t) / 65536 ≡ 1 = omega arith in let f : (65536 + t) % 65536 ≡ t = omega arith in simp (e, f)
 
 -- a home by its word
-pub home_none : (w : ℕ) → w / 65536 ≡ 0 → Unspilled ≡ home_in w
+pub home_none : (w : ℕ) → w / 65536 ≡ 0 → None ≡ home_in w
 unfolding home_in
 home_none w e = simp (eq-eqb (w / 65536) 0 e)
 
-pub home_some : (w : ℕ) → (w / 65536 ≡ 0 → ⊥) → Spilled (w % 65536) ≡ home_in w
+pub home_some : (w : ℕ) → (w / 65536 ≡ 0 → ⊥) → Some (w % 65536) ≡ home_in w
 unfolding home_in
 home_some w f = simp (ne_eqb (w / 65536) 0 f)
 
 -- the word of a home
-pub word_none : (h : Home) → h ≡ Unspilled → HomePacked h 0
+pub word_none : (h : Option ℕ) → h ≡ None → HomePacked h 0
 unfolding home_word
 word_none h e = record { is = rw e; small = omega arith }
 
-pub word_some : (h : Home) (t : ℕ) → h ≡ Spilled t → t < 65536 → HomePacked h (65536 + t)
+pub word_some : (h : Option ℕ) (t : ℕ) → h ≡ Some t → t < 65536 → HomePacked h (65536 + t)
 unfolding home_word
 word_some h t e l = record { is = rw e; small = omega arith }

@@ -1,6 +1,6 @@
 -- What the work area's words hold, as four lists (a fact for contracts: document 01 leaves the layout open). Nothing outside this crate speaks of words.
 -- Of 8 words per record of capacity: pieces, rows of 4 words, then one word each for the heap, the homes and the active records; the rest is free.
-use Rattle.std.specs.Prelude.{ℕ, ◌+◌, ◌-◌, ◌*◌, ◌/◌, ◌%◌, ◌≤◌, ◌<◌, ◌≡◌, List, ◌∷◌, length, get_or, take, eqb}
+use Rattle.std.specs.Prelude.{ℕ, ◌+◌, ◌-◌, ◌*◌, ◌/◌, ◌%◌, ◌≤◌, ◌<◌, ◌≡◌, List, ◌∷◌, length, get_or, take, eqb, Option, None, Some}
 use Rattle.words.specs.Choose.{choose}
 use Rattle.words.specs.Rows.{tab}
 use Rattle.words.specs.Packed.{record_in, range_in}
@@ -8,8 +8,6 @@ use Rattle.words.specs.declared.Record.{Record}
 use Rattle.rules.specs.declared.Piece.{Piece}
 use Rattle.rules.specs.declared.Place.{Place}
 use Rattle.rules.specs.declared.Place.TheVariants.{Nowhere, Register, Slot}
-use Rattle.rules.specs.declared.Home.{Home}
-use Rattle.rules.specs.declared.Home.TheVariants.{Unspilled, Spilled}
 use Rattle.rules.specs.State.{no_piece, insert}
 use Rattle.rules.specs.Call.{record_for}
 use Rattle.queue.specs.Heap.{Ord, sort}
@@ -37,15 +35,15 @@ pub record Unpacked (w0 w1 w2 w3 : ℕ) (r : Piece) : Type 0 where
   pub small : r.interval < 4096
 
 -- a home: 0 is unspilled, 65,536 + t is slot t
-unfoldable pub home_in : ℕ → Home
-home_in w = choose (eqb (w / 65536) 0) Unspilled (Spilled (w % 65536))
+unfoldable pub home_in : ℕ → Option ℕ
+home_in w = choose (eqb (w / 65536) 0) None (Some (w % 65536))
 
-unfoldable pub home_word : Home → ℕ
-home_word Unspilled = 0
-home_word (Spilled t) = 65536 + t
+unfoldable pub home_word : Option ℕ → ℕ
+home_word None = 0
+home_word (Some t) = 65536 + t
 
 -- the word of a home, which has 17 bits
-pub record HomePacked (h : Home) (r : ℕ) : Type 0 where
+pub record HomePacked (h : Option ℕ) (r : ℕ) : Type 0 where
   pub is : r ≡ home_word h
   pub small : r < 131072
 
@@ -53,7 +51,7 @@ pub record HomePacked (h : Home) (r : ℕ) : Type 0 where
 pub record Cells : Type 0 where
   pub pieces : List Piece
   pub heap : List ℕ
-  pub homes : List Home
+  pub homes : List (Option ℕ)
   pub active : List ℕ
 
 unfoldable pub cells : ℕ → List ℕ → Cells
@@ -72,7 +70,7 @@ with_pieces ps c = record { pieces = ps; heap = c.heap; homes = c.homes; active 
 abbrev pub with_heap : List ℕ → Cells → Cells
 with_heap h c = record { pieces = c.pieces; heap = h; homes = c.homes; active = c.active }
 
-abbrev pub with_homes : List Home → Cells → Cells
+abbrev pub with_homes : List (Option ℕ) → Cells → Cells
 with_homes hs c = record { pieces = c.pieces; heap = c.heap; homes = hs; active = c.active }
 
 abbrev pub with_active : List ℕ → Cells → Cells

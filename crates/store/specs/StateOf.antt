@@ -1,11 +1,9 @@
 -- The state of `rules` that a work area holds, and when it is fit for the next step (facts for contracts).
-use Rattle.std.specs.Prelude.{ℕ, suc, ◌+◌, ◌*◌, ◌^◌, ◌≤◌, ◌<◌, ◌≡◌, List, [], ◌∷◌, length, get_or, take, replicate}
+use Rattle.std.specs.Prelude.{ℕ, suc, ◌+◌, ◌*◌, ◌^◌, ◌≤◌, ◌<◌, ◌≡◌, List, [], ◌∷◌, length, get_or, take, replicate, Option, None, Some}
 use Rattle.words.specs.Rows.{tab}
 use Rattle.words.specs.Packed.{interval_count}
 use Rattle.rules.specs.declared.Piece.{Piece}
 use Rattle.rules.specs.declared.Place.{Place}
-use Rattle.rules.specs.declared.Home.{Home}
-use Rattle.rules.specs.declared.Home.TheVariants.{Unspilled, Spilled}
 use Rattle.rules.specs.State.{State, with_queue, with_place, piece, record_of_key}
 use Rattle.rules.specs.Slots.{round_up}
 use Rattle.rules.specs.Run.{whole_interval, begin}
@@ -48,10 +46,10 @@ pub data Each {A : Type 0} (P : A → Type 0) : List A → Type 0 where
   more : {x : A} {xs : List A} → P x → Each P xs → Each P (x ∷ xs)
 
 -- how many virtual registers have a slot
-unfoldable pub spilled_in : List Home → ℕ
+unfoldable pub spilled_in : List (Option ℕ) → ℕ
 spilled_in [] = 0
-spilled_in (Unspilled ∷ hs) = spilled_in hs
-spilled_in (Spilled t ∷ hs) = suc (spilled_in hs)
+spilled_in (None ∷ hs) = spilled_in hs
+spilled_in (Some t ∷ hs) = suc (spilled_in hs)
 
 -- what is in a state names what is there: pieces name one of the n intervals, the queue and the active records name records;
 -- a slot takes at most 8 of the total
@@ -114,16 +112,16 @@ pub record PoppedAs (cap : ℕ) (ws ws' : List ℕ) (c : Counts) (r : Popped) : 
   pub long : length ws' ≡ length ws
 
 -- virtual register v, of record k, has this home
-pub record HomeOf (cap : ℕ) (ws : List ℕ) (c : Counts) (k v : ℕ) (h : Home) : Type 0 where
+pub record HomeOf (cap : ℕ) (ws : List ℕ) (c : Counts) (k v : ℕ) (h : Option ℕ) : Type 0 where
   pub owner : v ≡ (piece (state_of cap ws c) k).interval
   pub within : v < c.intervals
-  pub is : h ≡ get_or (state_of cap ws c).homes v Unspilled
+  pub is : h ≡ get_or (state_of cap ws c).homes v None
 
 -- virtual register v, of record k, has no slot yet
 pub record Homeless (cap : ℕ) (ws : List ℕ) (c : Counts) (k v : ℕ) : Type 0 where
   pub owner : v ≡ (piece (state_of cap ws c) k).interval
   pub within : v < c.intervals
-  pub unspilled : get_or (state_of cap ws c).homes v Unspilled ≡ Unspilled
+  pub unspilled : get_or (state_of cap ws c).homes v None ≡ None
 
 -- a slot size by its log2
 pub record Size (l r : ℕ) : Type 0 where
@@ -150,7 +148,7 @@ pub record Whole (t : List ℕ) (v : ℕ) (r : Piece) : Type 0 where
 -- the first n pieces are the whole intervals, and no virtual register of the first n has a slot
 pub record Filled (cap : ℕ) (t ws ws' : List ℕ) (n : ℕ) : Type 0 where
   pub pieces : take n (cells cap ws').pieces ≡ tab n (whole_interval t)
-  pub homes : take n (cells cap ws').homes ≡ replicate n Unspilled
+  pub homes : take n (cells cap ws').homes ≡ replicate n None
   pub long : length ws' ≡ length ws
 
 -- what `load` leaves: the state that a run begins with

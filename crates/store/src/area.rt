@@ -7,7 +7,7 @@ ghost use Rattle.rules.specs.Call.{record_for, write_records, zero_records};
 ghost use Rattle.store.specs.StateOf.{state_of, Ready, Whole, Loads, Filled, Loaded};
 
 use crate::{Counts, cells, state};
-use rules::{Home, Piece, Place};
+use rules::{Piece, Place};
 use words::{read, write};
 
 const INTERVAL_WORDS: usize = 4;
@@ -49,7 +49,7 @@ fn fill(intervals: &[u32], work: &mut [u32], cap: usize)
     while k < n {
         let q = whole_interval(intervals, k);
         cells::put_piece(work, cap, k, q);
-        cells::put_home(work, cap, k, Home::Unspilled);
+        cells::put_home(work, cap, k, None);
         k += 1;
     }
 }

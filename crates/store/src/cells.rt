@@ -1,10 +1,9 @@
 // The words: the one place that knows how they lie. Of each record of capacity, 4 words hold a piece, 1 a key of the heap, 1 a home, 1 an active record.
-ghost use Rattle.std.specs.Prelude.{◌≡◌, ℕ, ◌+◌, ◌*◌, ◌<◌, ◌≤◌, get_or, set};
-ghost use Rattle.rules.specs.declared.Home.TheVariants.{Unspilled};
+ghost use Rattle.std.specs.Prelude.{◌≡◌, ℕ, ◌+◌, ◌*◌, ◌<◌, ◌≤◌, get_or, set, None};
 ghost use Rattle.rules.specs.Call.{kind_of, number_of};
 ghost use Rattle.store.specs.Cells.{place_of, Packable, Unpacked, home_in, HomePacked, Cells, cells, with_pieces, with_homes, with_active, At, Becomes, PieceAt, HeapOpen, HeapFilled, KeyPushed, KeyPopped};
 
-use rules::{Home, Piece, Place};
+use rules::{Piece, Place};
 use words::{Record, read, write};
 
 const PIECE_WORDS: usize = 4;
@@ -106,32 +105,32 @@ pub fn put_piece(work: &mut [u32], cap: usize, k: usize, q: Piece)
     work[b + 3] = write::range_word(safepoints);
 }
 
-fn home_in(w: u32) -> Home
+fn home_in(w: u32) -> Option<u16>
     ensures { result ≡ home_in w }
 {
     if w / SPILLED == 0 {
-        return Home::Unspilled;
+        return None;
     }
-    Home::Spilled((w % SPILLED) as u16)
+    Some((w % SPILLED) as u16)
 }
 
-fn home_word(home: Home) -> u32
+fn home_word(home: Option<u16>) -> u32
     ensures { HomePacked home result }
 {
     match home {
-        Home::Unspilled => 0,
-        Home::Spilled(t) => SPILLED + t as u32,
+        None => 0,
+        Some(t) => SPILLED + t as u32,
     }
 }
 
-pub fn home_at(work: &[u32], cap: usize, k: usize) -> Home
+pub fn home_at(work: &[u32], cap: usize, k: usize) -> Option<u16>
     requires { At cap work.now k }
-    ensures { result ≡ get_or (cells cap work.now).homes k Unspilled }
+    ensures { result ≡ get_or (cells cap work.now).homes k None }
 {
     home_in(work[cap * HOMES + k])
 }
 
-pub fn put_home(work: &mut [u32], cap: usize, k: usize, home: Home)
+pub fn put_home(work: &mut [u32], cap: usize, k: usize, home: Option<u16>)
     requires { At cap work.old k }
     ensures { Becomes cap work.old work.new (with_homes (set (cells cap work.old).homes k home) (cells cap work.old)) }
 {

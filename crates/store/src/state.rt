@@ -1,12 +1,11 @@
 // The state of `rules` in the work area: each function is one of its operations.
-ghost use Rattle.std.specs.Prelude.{◌≡◌, [], ◌∷◌, ◌++◌, ℕ, ◌+◌, ◌*◌, ◌^◌, ◌<◌, ◌≤◌, get_or, set};
-ghost use Rattle.rules.specs.declared.Home.TheVariants.{Unspilled, Spilled};
+ghost use Rattle.std.specs.Prelude.{◌≡◌, [], ◌∷◌, ◌++◌, ℕ, ◌+◌, ◌*◌, ◌^◌, ◌<◌, ◌≤◌, get_or, set, None, Some};
 ghost use Rattle.rules.specs.State.{with_pieces, with_active, with_homes, piece as piece_of, put, enqueue as enqueued};
 ghost use Rattle.rules.specs.Slots.{spill_to};
 ghost use Rattle.store.specs.StateOf.{state_of, spilled_in, Ready, After, Got, PutInto, GotActive, PoppedAs, HomeOf, Homeless, Size, Rounded};
 
 use crate::{Counts, Popped, cells};
-use rules::{Home, Piece, Place};
+use rules::{Piece, Place};
 
 // Keys order by start, then by record.
 const RECORDS: u32 = 16384;
@@ -176,11 +175,11 @@ fn give_home(
 ) -> Counts
     requires ready { Ready cap work.old counts }
     requires v_lt_intervals { v < counts.intervals }
-    requires v_value { get_or (state_of cap work.old counts).homes v Unspilled ≡ Unspilled }
+    requires v_value { get_or (state_of cap work.old counts).homes v None ≡ None }
     requires total_bound { total ≤ 8 * spilled_in (state_of cap work.old counts).homes + 8 }
-    ensures { After cap work.old work.new counts result (with_homes (set (state_of cap work.old counts).homes v (Spilled slot)) total (state_of cap work.old counts)) counts.records counts.queued counts.active }
+    ensures { After cap work.old work.new counts result (with_homes (set (state_of cap work.old counts).homes v (Some slot)) total (state_of cap work.old counts)) counts.records counts.queued counts.active }
 {
-    cells::put_home(work, cap, v, Home::Spilled(slot));
+    cells::put_home(work, cap, v, Some(slot));
     Counts {
         intervals: counts.intervals,
         records: counts.records,
@@ -196,7 +195,7 @@ fn first_spill(work: &mut [u32], cap: usize, counts: Counts, k: usize, v: usize,
     requires k_lt_records { k < counts.records }
     requires log_bound { log < 4 }
     requires homeless { Homeless cap work.old counts k v }
-    ensures { After cap work.old work.new counts result (spill_to (state_of cap work.old counts) k (2 ^ log) Unspilled) counts.records counts.queued counts.active }
+    ensures { After cap work.old work.new counts result (spill_to (state_of cap work.old counts) k (2 ^ log) None) counts.records counts.queued counts.active }
 {
     let rounded = round_up(counts.total, log);
     let slot = rounded as u16;
@@ -210,7 +209,7 @@ fn first_spill(work: &mut [u32], cap: usize, counts: Counts, k: usize, v: usize,
 #[derive(Clone, Copy)]
 struct Owner {
     v: usize,
-    home: Home,
+    home: Option<u16>,
 }
 
 // Record k's virtual register.
@@ -234,7 +233,7 @@ fn spill_by(
     counts: Counts,
     k: usize,
     v: usize,
-    home: Home,
+    home: Option<u16>,
     log: u16,
 ) -> Counts
     requires ready { Ready cap work.old counts }
@@ -244,8 +243,8 @@ fn spill_by(
     ensures { After cap work.old work.new counts result (spill_to (state_of cap work.old counts) k (2 ^ log) home) counts.records counts.queued counts.active }
 {
     match home {
-        Home::Unspilled => first_spill(work, cap, counts, k, v, log),
-        Home::Spilled(slot) => {
+        None => first_spill(work, cap, counts, k, v, log),
+        Some(slot) => {
             put_place(work, cap, counts, k, Place::Slot(slot));
             counts
         }
@@ -257,7 +256,7 @@ pub fn spill(work: &mut [u32], cap: usize, counts: Counts, k: usize, log: u16) -
     requires ready { Ready cap work.old counts }
     requires k_lt_records { k < counts.records }
     requires log_bound { log < 4 }
-    ensures { After cap work.old work.new counts result (spill_to (state_of cap work.old counts) k (2 ^ log) (get_or (state_of cap work.old counts).homes (piece_of (state_of cap work.old counts) k).interval Unspilled)) counts.records counts.queued counts.active }
+    ensures { After cap work.old work.new counts result (spill_to (state_of cap work.old counts) k (2 ^ log) (get_or (state_of cap work.old counts).homes (piece_of (state_of cap work.old counts) k).interval None)) counts.records counts.queued counts.active }
 {
     let owner = owner_of(work, cap, counts, k);
     let v = owner.v;

@@ -1,5 +1,6 @@
 -- Laws of the tests of one entry.
 -- Assumes nothing.
+use Rattle.std.specs.Prelude.{Option, None, Some}
 use Prim.Native.Nat.{ℕ, zero, suc, ◌+◌, ◌-◌, ◌*◌, ◌≤◌, ◌<◌}
 use mathlib.Core.Path.{◌≡◌, refl, sym, ap, ◌∙◌}
 use mathlib.Core.Bool.{Bool, true, false, ◌&&◌, ◌||◌, not, and-true}
@@ -12,8 +13,6 @@ use lib.Dec.{ltb, leb, eqb}
 use borrow.Author.Tests.{lt-ltb, le-ltb, leb-true, not-true, not-false}
 use Rattle.rules.proofs.AcceptedLaws.{and_left, and_right}
 use lib.Seq.{drop-cons}
-use Rattle.rules.specs.declared.Found.{Found}
-use Rattle.rules.specs.declared.Found.TheVariants.{Clean, Bad}
 use Rattle.words.specs.declared.Fragment.{Fragment}
 use Rattle.words.specs.Choose.{choose}
 use Rattle.words.specs.Points.{use_point, def_point, within}
@@ -92,10 +91,10 @@ pub mention_good_by : (ms : List ℕ) (i : Interval) (j : ℕ) (m : Mention) (x 
 mention_good_by ms i j m x y e f g = rw (f, g, e)
 
 -- the walk of one interval's mentions is clean, or finds a bad one
-pub mentions_clean : (is ms : List ℕ) (v : ℕ) (i : Interval) (r : Found) → i ≡ interval_at is v → r ≡ mention_find ms i → r ≡ Clean → mention_find ms (interval_at is v) ≡ Clean
+pub mentions_clean : (is ms : List ℕ) (v : ℕ) (i : Interval) (r : Option ℕ) → i ≡ interval_at is v → r ≡ mention_find ms i → r ≡ None → mention_find ms (interval_at is v) ≡ None
 mentions_clean is ms v i r e f g = sym (ap (mention_find ms) e) ∙ sym f ∙ g
 
-mentions_bad : (is ms : List ℕ) (v : ℕ) (i : Interval) (r : Found) (k : ℕ) → i ≡ interval_at is v → r ≡ mention_find ms i → r ≡ Bad k → mention_find ms (interval_at is v) ≡ Bad k
+mentions_bad : (is ms : List ℕ) (v : ℕ) (i : Interval) (r : Option ℕ) (k : ℕ) → i ≡ interval_at is v → r ≡ mention_find ms i → r ≡ Some k → mention_find ms (interval_at is v) ≡ Some k
 mentions_bad is ms v i r k e f g = sym (ap (mention_find ms) e) ∙ sym f ∙ g
 
 -- the range of one interval's mentions
@@ -182,24 +181,24 @@ register_good_by n rs fs r before e q t b h f g k l m =
     rw x y
 
 -- check 6 ends at the first interval with a bad mention
-pub mentions_stop : (is ms : List ℕ) (n v : ℕ) (i : Interval) (r : Found) (k : ℕ) → Walked (λ x. mention_find ms (interval_at is x)) 0 (interval_count is) n v → v < n
-    → i ≡ interval_at is v → r ≡ mention_find ms i → r ≡ Bad k → Bad k ≡ bad_mention (mention_tables is ms)
+pub mentions_stop : (is ms : List ℕ) (n v : ℕ) (i : Interval) (r : Option ℕ) (k : ℕ) → Walked (λ x. mention_find ms (interval_at is x)) 0 (interval_count is) n v → v < n
+    → i ≡ interval_at is v → r ≡ mention_find ms i → r ≡ Some k → Some k ≡ bad_mention (mention_tables is ms)
 unfolding bad_mention
 mentions_stop is ms n v i r k w h e f g = walk_stops (λ x. mention_find ms (interval_at is x)) 0 (interval_count is) n v k w h (mentions_bad is ms v i r k e f g)
 
 -- checks 5 and 8: the first bad entry, else what is left over
-either_is : (a a' b b' r : Found) → a ≡ a' → b ≡ b' → r ≡ or_else a b → r ≡ or_else a' b'
-either_is a a' b b' r e f g = g ∙ ap (λ (x : Found). or_else x b) e ∙ ap (λ (x : Found). or_else a' x) f
+either_is : (a a' b b' r : Option ℕ) → a ≡ a' → b ≡ b' → r ≡ or_else a b → r ≡ or_else a' b'
+either_is a a' b b' r e f g = g ∙ ap (λ (x : Option ℕ). or_else x b) e ∙ ap (λ (x : Option ℕ). or_else a' x) f
 
-pub intervals_found : (n : ℕ) (cs is ms ss : List ℕ) (a b c d r : Found) → a ≡ first (λ v. bad_unless (interval_good (interval_tables n cs is ms ss) v) v) 0 (interval_count is)
+pub intervals_found : (n : ℕ) (cs is ms ss : List ℕ) (a b c d r : Option ℕ) → a ≡ first (λ v. bad_unless (interval_good (interval_tables n cs is ms ss) v) v) 0 (interval_count is)
     → b ≡ leftovers (interval_count is) (length ms) → c ≡ leftovers (interval_count is) (length ss) → d ≡ or_else b c → r ≡ or_else a d → r ≡ bad_interval (interval_tables n cs is ms ss)
 unfolding bad_interval
 intervals_found n cs is ms ss a b c d r e f g h k =
-    let m : Found = leftovers (interval_count is) (length ms) in
-    let s : Found = leftovers (interval_count is) (length ss) in
+    let m : Option ℕ = leftovers (interval_count is) (length ms) in
+    let s : Option ℕ = leftovers (interval_count is) (length ss) in
     either_is a (first (λ v. bad_unless (interval_good (interval_tables n cs is ms ss) v) v) 0 (interval_count is)) d (or_else m s) r e (either_is b m c s d f g h) k
 
-pub fixed_found : (n : ℕ) (rs fs : List ℕ) (a b x : Found) → a ≡ first (λ r. bad_unless (register_good (fixed_tables n rs fs) r) r) 0 (length rs)
+pub fixed_found : (n : ℕ) (rs fs : List ℕ) (a b x : Option ℕ) → a ≡ first (λ r. bad_unless (register_good (fixed_tables n rs fs) r) r) 0 (length rs)
     → b ≡ leftovers (length rs) (length fs) → x ≡ or_else a b → x ≡ bad_fixed (fixed_tables n rs fs)
 unfolding bad_fixed
 fixed_found n rs fs a b x e f g = either_is a (first (λ r. bad_unless (register_good (fixed_tables n rs fs) r) r) 0 (length rs)) b (leftovers (length rs) (length fs)) x e f g

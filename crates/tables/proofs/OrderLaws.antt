@@ -1,5 +1,6 @@
 -- Laws of the checks in order: what the earlier checks give to the later, and how the answer is the first refusal.
 -- Assumes nothing.
+use Rattle.std.specs.Prelude.{Option, None, Some}
 use Prim.Native.Nat.{ℕ, ◌≤◌}
 use mathlib.Core.Path.{◌≡◌, sym, ap, ◌∙◌}
 use mathlib.Core.List.{List}
@@ -9,8 +10,6 @@ use Rattle.rules.specs.declared.Answer.{Answer}
 use Rattle.rules.specs.declared.Answer.TheVariants.{BadClass, BadInterval, BadMention, BadSafepoint, BadFixed}
 use Rattle.rules.specs.declared.Check.{Check}
 use Rattle.rules.specs.declared.Check.TheVariants.{Fine, Refused}
-use Rattle.rules.specs.declared.Found.{Found}
-use Rattle.rules.specs.declared.Found.TheVariants.{Clean, Bad}
 use Rattle.rules.specs.Tables.{Tables}
 use Rattle.rules.specs.Sound.{and_then, refuse_at, check_limits, bad_class, bad_interval, bad_mention, bad_safepoint, bad_fixed, check_tables}
 use Rattle.rules.specs.Accepted.{Limits}
@@ -35,10 +34,10 @@ unfoldable pub from_classes : Tables → Check
 from_classes T = and_then (refuse_at BadClass (bad_class T)) (from_intervals T)
 
 -- a find f that is computed as r refuses, or hands on to what is computed as s
-refuses : (mk : ℕ → Answer) (f r : Found) (rest : Check) (k : ℕ) → r ≡ f → r ≡ Bad k → Refused (mk k) ≡ and_then (refuse_at mk f) rest
+refuses : (mk : ℕ → Answer) (f r : Option ℕ) (rest : Check) (k : ℕ) → r ≡ f → r ≡ Some k → Refused (mk k) ≡ and_then (refuse_at mk f) rest
 refuses mk f r rest k e g = simp (← e, g)
 
-hands_on : (mk : ℕ → Answer) (f r : Found) (rest s : Check) → r ≡ f → r ≡ Clean → s ≡ rest → s ≡ and_then (refuse_at mk f) rest
+hands_on : (mk : ℕ → Answer) (f r : Option ℕ) (rest s : Check) → r ≡ f → r ≡ None → s ≡ rest → s ≡ and_then (refuse_at mk f) rest
 hands_on mk f r rest s e g h = simp (← e, g) h
 
 module _ (n : ℕ) (cs rs fs is ms ss : List ℕ) where
@@ -51,43 +50,43 @@ module _ (n : ℕ) (cs rs fs is ms ss : List ℕ) where
   unfolding check_tables from_classes from_intervals from_mentions from_safepoints from_fixed
   limits_pass c s e f g = simp (← e, f) g
 
-  pub class_refuses : (r : Found) (k : ℕ) → r ≡ bad_class (class_tables cs rs) → r ≡ Bad k → Refused (BadClass k) ≡ from_classes (tables n cs rs fs is ms ss)
+  pub class_refuses : (r : Option ℕ) (k : ℕ) → r ≡ bad_class (class_tables cs rs) → r ≡ Some k → Refused (BadClass k) ≡ from_classes (tables n cs rs fs is ms ss)
   unfolding from_classes bad_class
   class_refuses r k e f = refuses BadClass (bad_class (tables n cs rs fs is ms ss)) r (from_intervals (tables n cs rs fs is ms ss)) k e f
 
-  pub class_passes : (r : Found) (s : Check) → r ≡ bad_class (class_tables cs rs) → r ≡ Clean → s ≡ from_intervals (tables n cs rs fs is ms ss) → s ≡ from_classes (tables n cs rs fs is ms ss)
+  pub class_passes : (r : Option ℕ) (s : Check) → r ≡ bad_class (class_tables cs rs) → r ≡ None → s ≡ from_intervals (tables n cs rs fs is ms ss) → s ≡ from_classes (tables n cs rs fs is ms ss)
   unfolding from_classes bad_class
   class_passes r s e f g = hands_on BadClass (bad_class (tables n cs rs fs is ms ss)) r (from_intervals (tables n cs rs fs is ms ss)) s e f g
 
-  pub interval_refuses : (r : Found) (k : ℕ) → r ≡ bad_interval (interval_tables n cs is ms ss) → r ≡ Bad k → Refused (BadInterval k) ≡ from_intervals (tables n cs rs fs is ms ss)
+  pub interval_refuses : (r : Option ℕ) (k : ℕ) → r ≡ bad_interval (interval_tables n cs is ms ss) → r ≡ Some k → Refused (BadInterval k) ≡ from_intervals (tables n cs rs fs is ms ss)
   unfolding from_intervals bad_interval
   interval_refuses r k e f = refuses BadInterval (bad_interval (tables n cs rs fs is ms ss)) r (from_mentions (tables n cs rs fs is ms ss)) k e f
 
-  pub interval_passes : (r : Found) (s : Check) → r ≡ bad_interval (interval_tables n cs is ms ss) → r ≡ Clean → s ≡ from_mentions (tables n cs rs fs is ms ss) → s ≡ from_intervals (tables n cs rs fs is ms ss)
+  pub interval_passes : (r : Option ℕ) (s : Check) → r ≡ bad_interval (interval_tables n cs is ms ss) → r ≡ None → s ≡ from_mentions (tables n cs rs fs is ms ss) → s ≡ from_intervals (tables n cs rs fs is ms ss)
   unfolding from_intervals bad_interval
   interval_passes r s e f g = hands_on BadInterval (bad_interval (tables n cs rs fs is ms ss)) r (from_mentions (tables n cs rs fs is ms ss)) s e f g
 
-  pub mention_refuses : (r : Found) (k : ℕ) → r ≡ bad_mention (mention_tables is ms) → r ≡ Bad k → Refused (BadMention k) ≡ from_mentions (tables n cs rs fs is ms ss)
+  pub mention_refuses : (r : Option ℕ) (k : ℕ) → r ≡ bad_mention (mention_tables is ms) → r ≡ Some k → Refused (BadMention k) ≡ from_mentions (tables n cs rs fs is ms ss)
   unfolding from_mentions bad_mention
   mention_refuses r k e f = refuses BadMention (bad_mention (tables n cs rs fs is ms ss)) r (from_safepoints (tables n cs rs fs is ms ss)) k e f
 
-  pub mention_passes : (r : Found) (s : Check) → r ≡ bad_mention (mention_tables is ms) → r ≡ Clean → s ≡ from_safepoints (tables n cs rs fs is ms ss) → s ≡ from_mentions (tables n cs rs fs is ms ss)
+  pub mention_passes : (r : Option ℕ) (s : Check) → r ≡ bad_mention (mention_tables is ms) → r ≡ None → s ≡ from_safepoints (tables n cs rs fs is ms ss) → s ≡ from_mentions (tables n cs rs fs is ms ss)
   unfolding from_mentions bad_mention
   mention_passes r s e f g = hands_on BadMention (bad_mention (tables n cs rs fs is ms ss)) r (from_safepoints (tables n cs rs fs is ms ss)) s e f g
 
-  pub safepoint_refuses : (r : Found) (k : ℕ) → r ≡ bad_safepoint (safepoint_tables is ms ss) → r ≡ Bad k → Refused (BadSafepoint k) ≡ from_safepoints (tables n cs rs fs is ms ss)
+  pub safepoint_refuses : (r : Option ℕ) (k : ℕ) → r ≡ bad_safepoint (safepoint_tables is ms ss) → r ≡ Some k → Refused (BadSafepoint k) ≡ from_safepoints (tables n cs rs fs is ms ss)
   unfolding from_safepoints bad_safepoint
   safepoint_refuses r k e f = refuses BadSafepoint (bad_safepoint (tables n cs rs fs is ms ss)) r (from_fixed (tables n cs rs fs is ms ss)) k e f
 
-  pub safepoint_passes : (r : Found) (s : Check) → r ≡ bad_safepoint (safepoint_tables is ms ss) → r ≡ Clean → s ≡ from_fixed (tables n cs rs fs is ms ss) → s ≡ from_safepoints (tables n cs rs fs is ms ss)
+  pub safepoint_passes : (r : Option ℕ) (s : Check) → r ≡ bad_safepoint (safepoint_tables is ms ss) → r ≡ None → s ≡ from_fixed (tables n cs rs fs is ms ss) → s ≡ from_safepoints (tables n cs rs fs is ms ss)
   unfolding from_safepoints bad_safepoint
   safepoint_passes r s e f g = hands_on BadSafepoint (bad_safepoint (tables n cs rs fs is ms ss)) r (from_fixed (tables n cs rs fs is ms ss)) s e f g
 
-  pub fixed_refuses : (r : Found) (k : ℕ) → r ≡ bad_fixed (fixed_tables n rs fs) → r ≡ Bad k → Refused (BadFixed k) ≡ from_fixed (tables n cs rs fs is ms ss)
+  pub fixed_refuses : (r : Option ℕ) (k : ℕ) → r ≡ bad_fixed (fixed_tables n rs fs) → r ≡ Some k → Refused (BadFixed k) ≡ from_fixed (tables n cs rs fs is ms ss)
   unfolding from_fixed bad_fixed
   fixed_refuses r k e f = ap (refuse_at BadFixed) (sym f ∙ e)
 
-  pub fixed_passes : (r : Found) → r ≡ bad_fixed (fixed_tables n rs fs) → r ≡ Clean → Fine ≡ from_fixed (tables n cs rs fs is ms ss)
+  pub fixed_passes : (r : Option ℕ) → r ≡ bad_fixed (fixed_tables n rs fs) → r ≡ None → Fine ≡ from_fixed (tables n cs rs fs is ms ss)
   unfolding from_fixed bad_fixed
   fixed_passes r e f = ap (refuse_at BadFixed) (sym f ∙ e)
 
@@ -115,11 +114,11 @@ module _ (n : ℕ) (cs rs fs is ms ss : List ℕ) where
     few_safepoints = limits.safepoints
 
 -- what check 5 gives,
-pub ranged : (n : ℕ) (cs is ms ss : List ℕ) (i : Found) → i ≡ bad_interval (interval_tables n cs is ms ss) → i ≡ Clean → Ranged is ms
+pub ranged : (n : ℕ) (cs is ms ss : List ℕ) (i : Option ℕ) → i ≡ bad_interval (interval_tables n cs is ms ss) → i ≡ None → Ranged is ms
 ranged n cs is ms ss i e f = record { inside = λ v h. (intervals_kept (interval_tables n cs is ms ss) (sym e ∙ f) v h).mentions }
 
 -- and checks 5 and 6
-pub placed : (n : ℕ) (cs is ms ss : List ℕ) (i m : Found) → i ≡ bad_interval (interval_tables n cs is ms ss) → i ≡ Clean → m ≡ bad_mention (mention_tables is ms) → m ≡ Clean → Placed is ms ss
+pub placed : (n : ℕ) (cs is ms ss : List ℕ) (i m : Option ℕ) → i ≡ bad_interval (interval_tables n cs is ms ss) → i ≡ None → m ≡ bad_mention (mention_tables is ms) → m ≡ None → Placed is ms ss
 placed n cs is ms ss i m e f g h =
     record {
       mentions = λ v l. record { inside = (intervals_kept (interval_tables n cs is ms ss) (sym e ∙ f) v l).mentions; up = (mentions_kept (mention_tables is ms) (sym g ∙ h) v l).ascending };

@@ -1,5 +1,6 @@
 -- Laws of check 7: in mentions that ascend, at most one is at an instruction, and a search of their words finds it.
 -- Assumes nothing.
+use Rattle.std.specs.Prelude.{Option, None, Some}
 use Prim.Native.Nat.{ℕ, zero, suc, ◌+◌, ◌-◌, ◌*◌, ◌/◌, ◌^◌, ◌≤◌, ◌<◌}
 use mathlib.Core.Path.{◌≡◌, refl, sym, ap, ◌∙◌}
 use mathlib.Core.Bool.{Bool, true, false, ◌&&◌, ◌||◌, not}
@@ -18,8 +19,6 @@ use Rattle.words.specs.Packed.{interval_at, interval_count, mention_in, part}
 use Rattle.words.specs.declared.Range.{Range}
 use Rattle.words.specs.declared.Interval.{Interval}
 use Rattle.words.specs.declared.Mention.{Mention}
-use Rattle.rules.specs.declared.Found.{Found}
-use Rattle.rules.specs.declared.Found.TheVariants.{Clean, Bad}
 use Rattle.rules.specs.Sound.{every, range_end, ascends, not_used_alone, safepoint_good, bad_safepoint}
 use Rattle.rules.proofs.AcceptedLaws.{part_long}
 use Rattle.seek.specs.Seek.{Rising, Lower}
@@ -130,10 +129,10 @@ pub safepoints_placed : (is ms ss : List ℕ) (v : ℕ) (i : Interval) → Place
 safepoints_placed is ms ss v i r h e = rw e (r.safepoints v h)
 
 -- the walk of one interval's safepoints is clean, or finds a bad one: there check 7 ends
-pub safepoints_clean : (is ms ss : List ℕ) (v : ℕ) (i : Interval) (r : Found) → i ≡ interval_at is v → r ≡ safepoint_find ms ss i → r ≡ Clean → safepoint_find ms ss (interval_at is v) ≡ Clean
+pub safepoints_clean : (is ms ss : List ℕ) (v : ℕ) (i : Interval) (r : Option ℕ) → i ≡ interval_at is v → r ≡ safepoint_find ms ss i → r ≡ None → safepoint_find ms ss (interval_at is v) ≡ None
 safepoints_clean is ms ss v i r e f g = sym (ap (safepoint_find ms ss) e) ∙ sym f ∙ g
 
-pub safepoints_stop : (is ms ss : List ℕ) (n v : ℕ) (i : Interval) (r : Found) (k : ℕ) → Walked (λ x. safepoint_find ms ss (interval_at is x)) 0 (interval_count is) n v → v < n
-    → i ≡ interval_at is v → r ≡ safepoint_find ms ss i → r ≡ Bad k → Bad k ≡ bad_safepoint (safepoint_tables is ms ss)
+pub safepoints_stop : (is ms ss : List ℕ) (n v : ℕ) (i : Interval) (r : Option ℕ) (k : ℕ) → Walked (λ x. safepoint_find ms ss (interval_at is x)) 0 (interval_count is) n v → v < n
+    → i ≡ interval_at is v → r ≡ safepoint_find ms ss i → r ≡ Some k → Some k ≡ bad_safepoint (safepoint_tables is ms ss)
 unfolding bad_safepoint
 safepoints_stop is ms ss n v i r k w h e f g = walk_stops (λ x. safepoint_find ms ss (interval_at is x)) 0 (interval_count is) n v k w h (sym (ap (safepoint_find ms ss) e) ∙ sym f ∙ g)

@@ -1,6 +1,5 @@
 -- Facts for contracts: document 01's tests of one entry, said of the entry and of what the walk of its table carries.
-use Rattle.std.specs.Prelude.{ℕ, ◌+◌, ◌-◌, ◌*◌, ◌≤◌, ◌<◌, ◌≡◌, List, [], length, get_or, take, drop, Bool, ◌&&◌, ◌||◌, ltb, leb, eqb}
-use Rattle.rules.specs.declared.Found.{Found}
+use Rattle.std.specs.Prelude.{ℕ, ◌+◌, ◌-◌, ◌*◌, ◌≤◌, ◌<◌, ◌≡◌, List, [], length, get_or, take, drop, Bool, ◌&&◌, ◌||◌, ltb, leb, eqb, Option}
 use Rattle.words.specs.declared.Range.{Range}
 use Rattle.words.specs.declared.Interval.{Interval}
 use Rattle.rules.specs.Sound.{first, count_sum, range_end, end_before, ends_before, fragments_good, bad_unless, mention_good, safepoint_good}
@@ -23,7 +22,7 @@ pub record Summed (classes : List ℕ) (k sum : ℕ) : Type 0 where
   pub small : sum ≤ 255 * k
 
 -- a walk of the n entries from lo to hi has found nothing before i
-pub record Walked (f : ℕ → Found) (lo n hi i : ℕ) : Type 0 where
+pub record Walked (f : ℕ → Option ℕ) (lo n hi i : ℕ) : Type 0 where
   pub ends : hi ≡ lo + n
   pub from : lo ≤ i
   pub upto : i ≤ hi
@@ -53,7 +52,7 @@ pub record Passed (limit : ℕ) (ws : List ℕ) (lo hi f : ℕ) : Type 0 where
   pub rest : fragments_good limit (between lo hi ws) ≡ fragments_good limit (between f hi ws)
 
 -- what the mentions of interval i are found to be
-abbrev pub mention_find : List ℕ → Interval → Found
+abbrev pub mention_find : List ℕ → Interval → Option ℕ
 mention_find ms i = first (λ j. bad_unless (mention_good (mention_tables [] ms) i j) j) i.mentions.index i.mentions.count
 
 -- the mentions of range q lie in the table, their instructions strictly ascending
@@ -67,5 +66,5 @@ pub record Placed (is ms ss : List ℕ) : Type 0 where
   pub safepoints : (v : ℕ) → v < interval_count is → range_end (interval_at is v).safepoints ≤ length ss
 
 -- what the safepoints of interval i are found to be
-abbrev pub safepoint_find : List ℕ → List ℕ → Interval → Found
+abbrev pub safepoint_find : List ℕ → List ℕ → Interval → Option ℕ
 safepoint_find ms ss i = first (λ j. bad_unless (safepoint_good (safepoint_tables [] ms ss) i j) j) i.safepoints.index i.safepoints.count

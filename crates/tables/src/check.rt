@@ -4,7 +4,7 @@ ghost use Rattle.rules.specs.Sound.{check_tables};
 ghost use Rattle.tables.specs.Given.{tables};
 
 use crate::{classes, fixed, intervals, limits, mentions, safepoints};
-use rules::{Answer, Check, Found};
+use rules::{Answer, Check};
 
 // Whether the tables are sound, else the refusal and its place.
 pub fn check_tables(
@@ -29,10 +29,10 @@ pub fn check_tables(
     ) {
         return Check::Refused(a);
     }
-    if let Found::Bad(k) = classes::bad_class(classes, registers) {
+    if let Some(k) = classes::bad_class(classes, registers) {
         return Check::Refused(Answer::BadClass(k));
     }
-    if let Found::Bad(k) = intervals::bad_interval(
+    if let Some(k) = intervals::bad_interval(
         instructions,
         classes,
         intervals,
@@ -41,13 +41,13 @@ pub fn check_tables(
     ) {
         return Check::Refused(Answer::BadInterval(k));
     }
-    if let Found::Bad(k) = mentions::bad_mention(intervals, mentions) {
+    if let Some(k) = mentions::bad_mention(intervals, mentions) {
         return Check::Refused(Answer::BadMention(k));
     }
-    if let Found::Bad(k) = safepoints::bad_safepoint(intervals, mentions, safepoints) {
+    if let Some(k) = safepoints::bad_safepoint(intervals, mentions, safepoints) {
         return Check::Refused(Answer::BadSafepoint(k));
     }
-    if let Found::Bad(k) = fixed::bad_fixed(instructions, registers, fragments) {
+    if let Some(k) = fixed::bad_fixed(instructions, registers, fragments) {
         return Check::Refused(Answer::BadFixed(k));
     }
     Check::Fine

@@ -5,7 +5,6 @@ ghost use Rattle.tables.specs.Given.{class_tables};
 ghost use Rattle.tables.specs.Entries.{Summed};
 
 use crate::read;
-use rules::Found;
 use words::Class;
 
 fn scratch_good(c: Class) -> bool
@@ -33,7 +32,7 @@ fn class_good(classes: &[u32], registers: &[u32], k: usize, sum: usize) -> bool
         & ((k + 1 < classes.len()) | (all == registers.len()))
 }
 
-pub(crate) fn bad_class(classes: &[u32], registers: &[u32]) -> Found
+pub(crate) fn bad_class(classes: &[u32], registers: &[u32]) -> Option<u16>
     requires { length classes.now ≤ 8 }
     ensures { result ≡ bad_class (class_tables classes.now registers.now) }
 {
@@ -41,11 +40,11 @@ pub(crate) fn bad_class(classes: &[u32], registers: &[u32]) -> Found
     let mut k = 0;
     while k < classes.len() {
         if !class_good(classes, registers, k, sum) {
-            return Found::Bad(k as u16);
+            return Some(k as u16);
         }
         let c = read::class_at(classes, k);
         sum += c.count as usize;
         k += 1;
     }
-    Found::Clean
+    None
 }

@@ -6,7 +6,6 @@ ghost use Rattle.tables.specs.Given.{fixed_tables};
 ghost use Rattle.tables.specs.Entries.{fragment_good, between};
 
 use crate::{read, tests};
-use rules::Found;
 
 // Where the fragments of the register before register r end.
 fn end_before(registers: &[u32], r: usize) -> usize
@@ -62,21 +61,21 @@ fn register_good(instructions: u32, registers: &[u32], fragments: &[u32], r: usi
     fragments_good(limit, fragments, q.index as usize, end)
 }
 
-fn first_register(instructions: u32, registers: &[u32], fragments: &[u32]) -> Found
+fn first_register(instructions: u32, registers: &[u32], fragments: &[u32]) -> Option<u16>
     requires { (instructions ≤ 32768) × (length registers.now ≤ 64) }
     ensures { result ≡ first (λ r. bad_unless (register_good (fixed_tables instructions registers.now fragments.now) r) r) 0 (length registers.now) }
 {
     let mut r = 0;
     while r < registers.len() {
         if !register_good(instructions, registers, fragments, r) {
-            return Found::Bad(r as u16);
+            return Some(r as u16);
         }
         r += 1;
     }
-    Found::Clean
+    None
 }
 
-pub(crate) fn bad_fixed(instructions: u32, registers: &[u32], fragments: &[u32]) -> Found
+pub(crate) fn bad_fixed(instructions: u32, registers: &[u32], fragments: &[u32]) -> Option<u16>
     requires { (instructions ≤ 32768) × (length registers.now ≤ 64) }
     ensures { result ≡ bad_fixed (fixed_tables instructions registers.now fragments.now) }
 {

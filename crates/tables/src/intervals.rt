@@ -6,7 +6,6 @@ ghost use Rattle.tables.specs.Given.{interval_tables};
 ghost use Rattle.tables.specs.Entries.{EndsBefore, extent_good, range_fits};
 
 use crate::{Ends, read, tests};
-use rules::Found;
 use words::Interval;
 
 // Where the ranges of the interval before interval v end: interval v's continue them.
@@ -75,7 +74,7 @@ fn first_interval(
     intervals: &[u32],
     mentions: &[u32],
     safepoints: &[u32],
-) -> Found
+) -> Option<u16>
     requires { (instructions ≤ 32768) × (interval_count intervals.now ≤ 4096) }
     ensures { result ≡ first (λ v. bad_unless (interval_good (interval_tables instructions classes.now intervals.now mentions.now safepoints.now) v) v) 0 (interval_count intervals.now) }
 {
@@ -83,11 +82,11 @@ fn first_interval(
     let mut v = 0;
     while v < n {
         if !interval_good(instructions, classes, intervals, mentions, safepoints, v) {
-            return Found::Bad(v as u16);
+            return Some(v as u16);
         }
         v += 1;
     }
-    Found::Clean
+    None
 }
 
 pub(crate) fn bad_interval(
@@ -96,7 +95,7 @@ pub(crate) fn bad_interval(
     intervals: &[u32],
     mentions: &[u32],
     safepoints: &[u32],
-) -> Found
+) -> Option<u16>
     requires { (instructions ≤ 32768) × (interval_count intervals.now ≤ 4096) }
     ensures { result ≡ bad_interval (interval_tables instructions classes.now intervals.now mentions.now safepoints.now) }
 {

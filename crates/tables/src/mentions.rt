@@ -8,7 +8,6 @@ ghost use Rattle.tables.specs.Given.{mention_tables};
 ghost use Rattle.tables.specs.Entries.{Ranged};
 
 use crate::{read, tests};
-use rules::Found;
 use words::{Interval, Mention, Range};
 
 // Every point of mention m is in a..e.
@@ -52,7 +51,7 @@ fn mention_good(i: Interval, mentions: &[u32], j: usize) -> bool
 }
 
 // The first bad mention of an interval.
-fn first_mention(i: Interval, mentions: &[u32]) -> Found
+fn first_mention(i: Interval, mentions: &[u32]) -> Option<u16>
     requires { (range_end i.mentions ≤ length mentions.now) × (length mentions.now ≤ 16384) }
     ensures { result ≡ first (λ j. bad_unless (mention_good (mention_tables [] mentions.now) i j) j) i.mentions.index i.mentions.count }
 {
@@ -61,14 +60,14 @@ fn first_mention(i: Interval, mentions: &[u32]) -> Found
     let mut j = q.index as usize;
     while j < end {
         if !mention_good(i, mentions, j) {
-            return Found::Bad(j as u16);
+            return Some(j as u16);
         }
         j += 1;
     }
-    Found::Clean
+    None
 }
 
-pub(crate) fn bad_mention(intervals: &[u32], mentions: &[u32]) -> Found
+pub(crate) fn bad_mention(intervals: &[u32], mentions: &[u32]) -> Option<u16>
     requires { (Ranged intervals.now mentions.now) × (length mentions.now ≤ 16384) }
     ensures { result ≡ bad_mention (mention_tables intervals.now mentions.now) }
 {
@@ -76,10 +75,10 @@ pub(crate) fn bad_mention(intervals: &[u32], mentions: &[u32]) -> Found
     let mut v = 0;
     while v < n {
         let i = read::interval_at(intervals, v);
-        if let Found::Bad(j) = first_mention(i, mentions) {
-            return Found::Bad(j);
+        if let Some(j) = first_mention(i, mentions) {
+            return Some(j);
         }
         v += 1;
     }
-    Found::Clean
+    None
 }

@@ -7,7 +7,6 @@ ghost use Rattle.tables.specs.Given.{safepoint_tables};
 ghost use Rattle.tables.specs.Entries.{Ascending, Placed, safepoint_find};
 
 use crate::{read, tests};
-use rules::Found;
 use seek;
 use words::{Interval, Range};
 
@@ -63,7 +62,7 @@ fn safepoint_good(i: Interval, mentions: &[u32], safepoints: &[u32], j: usize) -
 }
 
 // The first bad safepoint of an interval.
-fn first_safepoint(i: Interval, mentions: &[u32], safepoints: &[u32]) -> Found
+fn first_safepoint(i: Interval, mentions: &[u32], safepoints: &[u32]) -> Option<u16>
     requires { (range_end i.safepoints ≤ length safepoints.now) × (length safepoints.now ≤ 16384) × (Ascending mentions.now i.mentions) }
     ensures { result ≡ safepoint_find mentions.now safepoints.now i }
 {
@@ -72,14 +71,14 @@ fn first_safepoint(i: Interval, mentions: &[u32], safepoints: &[u32]) -> Found
     let mut j = r.index as usize;
     while j < end {
         if !safepoint_good(i, mentions, safepoints, j) {
-            return Found::Bad(j as u16);
+            return Some(j as u16);
         }
         j += 1;
     }
-    Found::Clean
+    None
 }
 
-pub(crate) fn bad_safepoint(intervals: &[u32], mentions: &[u32], safepoints: &[u32]) -> Found
+pub(crate) fn bad_safepoint(intervals: &[u32], mentions: &[u32], safepoints: &[u32]) -> Option<u16>
     requires { (Placed intervals.now mentions.now safepoints.now) × (length safepoints.now ≤ 16384) }
     ensures { result ≡ bad_safepoint (safepoint_tables intervals.now mentions.now safepoints.now) }
 {
@@ -87,10 +86,10 @@ pub(crate) fn bad_safepoint(intervals: &[u32], mentions: &[u32], safepoints: &[u
     let mut v = 0;
     while v < n {
         let i = read::interval_at(intervals, v);
-        if let Found::Bad(j) = first_safepoint(i, mentions, safepoints) {
-            return Found::Bad(j);
+        if let Some(j) = first_safepoint(i, mentions, safepoints) {
+            return Some(j);
         }
         v += 1;
     }
-    Found::Clean
+    None
 }

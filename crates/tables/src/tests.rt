@@ -4,7 +4,6 @@ ghost use Rattle.words.specs.Points.{within};
 ghost use Rattle.rules.specs.Sound.{or_else, range_end, leftovers};
 ghost use Rattle.tables.specs.Entries.{range_fits};
 
-use rules::Found;
 use words::Range;
 
 // The place of a refusal that names no entry.
@@ -31,21 +30,21 @@ pub(crate) fn range_good(r: Range, before: usize, more: bool, len: usize) -> boo
     (r.index as usize == before) & (end <= len) & (more | (end == len))
 }
 
-pub(crate) fn left_over(n: usize, len: usize) -> Found
+pub(crate) fn left_over(n: usize, len: usize) -> Option<u16>
     ensures { result ≡ leftovers n len }
 {
     if (0 < n) | (len == 0) {
-        Found::Clean
+        None
     } else {
-        Found::Bad(NOWHERE)
+        Some(NOWHERE)
     }
 }
 
-pub(crate) fn or_else(a: Found, b: Found) -> Found
+pub(crate) fn or_else(a: Option<u16>, b: Option<u16>) -> Option<u16>
     ensures { result ≡ or_else a b }
 {
     match a {
-        Found::Clean => b,
-        Found::Bad(k) => Found::Bad(k),
+        None => b,
+        Some(k) => Some(k),
     }
 }

@@ -1,5 +1,6 @@
 -- The small changes of a state, each with what it keeps of the invariant: split, queue, give a place, and the record that the invariant leaves out for a while.
 -- Assumes accepted tables.
+use Rattle.std.specs.Prelude.{Option, None, Some}
 use Prim.Native.Nat.{ℕ, suc, ◌+◌, ◌*◌, ◌≤◌, ◌<◌}
 use mathlib.Core.Path.{◌≡◌, refl, sym, ap, ◌∙◌}
 use mathlib.Core.Logic.{◌≢◌, ◌⊎◌, inl, inr, ⊎_elim}
@@ -11,8 +12,6 @@ use borrow.Author.Tests.{le-leb}
 use lib.Dec.{leb}
 use lib.ListN.{length, get_or}
 use Rattle.words.specs.Points.{def_point}
-use Rattle.rules.specs.declared.Home.{Home}
-use Rattle.rules.specs.declared.Home.TheVariants.{Unspilled, Spilled}
 use Rattle.rules.specs.declared.Piece.{Piece}
 use Rattle.rules.specs.declared.Place.{Place}
 use Rattle.rules.specs.declared.Place.TheVariants.{Nowhere, Register, Slot}
@@ -44,15 +43,15 @@ pub register_slot : {A : Type 0} (w : Place) (r t : ℕ) → w ≡ Register r �
 register_slot w r t a b = let z : ◌≡◌ {A = ℕ} 0 1 = cc in absurd (omega arith)
 
 -- what is a slot stays one
-abbrev pub Within : List Home → List Home → Type 0
-Within hs hs' = (v t : ℕ) → get_or hs v Unspilled ≡ Spilled t → get_or hs' v Unspilled ≡ Spilled t
+abbrev pub Within : List (Option ℕ) → List (Option ℕ) → Type 0
+Within hs hs' = (v t : ℕ) → get_or hs v None ≡ Some t → get_or hs' v None ≡ Some t
 
 abbrev pub Among : List ℕ → List ℕ → Type 0
 Among xs ys = (x : ℕ) → Memᴰ x xs → Memᴰ x ys
 
 module _ (T : Tables) where
   -- more keys, more active records, more slots: what holds by place still does
-  pub held_more : (l k : ℕ) (qs qs' av av' : List ℕ) (hs hs' : List Home) → Among qs qs' → Among av av' → Within hs hs' → (q : Piece) (w : Place)
+  pub held_more : (l k : ℕ) (qs qs' av av' : List ℕ) (hs hs' : List (Option ℕ)) → Among qs qs' → Among av av' → Within hs hs' → (q : Piece) (w : Place)
       → Held T l qs av hs k q w → Held T l qs' av' hs' k q w
   held_more l k qs qs' av av' hs hs' a b c q Nowhere h = (h.0, a _ h.1)
   held_more l k qs qs' av av' hs hs' a b c q (Register r) h = record { usable = h.usable; begun = h.begun; tracked = λ e. b _ (h.tracked e); unfixed = h.unfixed; safe = h.safe }
@@ -87,7 +86,7 @@ module _ (g : Given) (ok : Accepted g.tables) where
           let in-time : j < q.mentions.index + staying_mentions ms sp q p = elim (dec_lt j (q.mentions.index + staying_mentions ms sp q p)) [ yes x ↦ x | no x ↦ absurd (omega (arith, cm.above j (omega arith) a.1)) ] in
           (j, (a.0, in-time), d)
 
-  held_parent : (l k p : ℕ) (qs av : List ℕ) (hs : List Home) (q : Piece) → Shape T q → Clear g q p → p ≤ q.end → (w : Place) → Held T l qs av hs k q w → Held T l qs av hs k (parent ms sp q p) w
+  held_parent : (l k p : ℕ) (qs av : List ℕ) (hs : List (Option ℕ)) (q : Piece) → Shape T q → Clear g q p → p ≤ q.end → (w : Place) → Held T l qs av hs k q w → Held T l qs av hs k (parent ms sp q p) w
   held_parent l k p qs av hs q s c b Nowhere h = h
   held_parent l k p qs av hs q s c b (Register r) h = record { usable = h.usable; begun = h.begun; tracked = λ e. h.tracked (omega arith); unfixed = λ f o x u v. h.unfixed f o x u (omega arith); safe = safe_parent q p s c h.safe }
   held_parent l k p qs av hs q s c b (Slot t) h = (omega (arith, h.0, (cut_mentions T ok q s p).high), h.1)
@@ -160,7 +159,7 @@ module _ (g : Given) (ok : Accepted g.tables) where
   -- a record that is left out, and has no slot, is given a place
   pub inv_place : (l : ℕ) (X : ℕ → Type 0) (s s' : State) (j : ℕ) (w : Place) → Inv g l X s → X j → j < length s.pieces → ((t : ℕ) → (at s.pieces j).place ≢ Slot t)
       → s'.pieces ≡ placed s.pieces j w → s'.queue ≡ s.queue → Among s.active s'.active → Within s.homes s'.homes → Slots T s'.homes s'.total
-      → ((v t : ℕ) → get_or s'.homes v Unspilled ≡ Spilled t → (((at s.pieces j).interval ≡ v) × (w ≡ Slot t)) ⊎ (get_or s.homes v Unspilled ≡ Spilled t)) → Inv g l X s'
+      → ((v t : ℕ) → get_or s'.homes v None ≡ Some t → (((at s.pieces j).interval ≡ v) × (w ≡ Slot t)) ⊎ (get_or s.homes v None ≡ Some t)) → Inv g l X s'
   inv_place l X s s' j w i xj h n ep eq ea eh sl us =
       record {
         core = rw ep (core_placed g ok g.capacity s.pieces i.core j h w);
@@ -172,7 +171,7 @@ module _ (g : Given) (ok : Accepted g.tables) where
         queued = rw (eq, ep) (λ x m. let q = i.queued x m in let o = at_unplaced s.pieces j w (record_of_key x) (λ e. i.waiting x m (rw e xj)) in record { here = rw length_placed q.here; free = rw o q.free; key = rw o q.key });
         waiting = rw eq i.waiting;
         slots = sl;
-        used = λ v t e. rw ep (⊎_elim (λ (o : ((at s.pieces j).interval ≡ v) × (w ≡ Slot t)). here v t o.0 o.1) (λ (o : get_or s.homes v Unspilled ≡ Spilled t). moved v t (i.used v t o)) (us v t e));
+        used = λ v t e. rw ep (⊎_elim (λ (o : ((at s.pieces j).interval ≡ v) × (w ≡ Slot t)). here v t o.0 o.1) (λ (o : get_or s.homes v None ≡ Some t). moved v t (i.used v t o)) (us v t e));
       }
     where
       here : (v t : ℕ) → (at s.pieces j).interval ≡ v → w ≡ Slot t → IsSpilled (placed s.pieces j w) v t

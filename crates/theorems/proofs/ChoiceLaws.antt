@@ -1,5 +1,6 @@
 -- The register that is chosen, the record that holds it, positions, and the place of a partial split.
 -- Assumes nothing.
+use Rattle.std.specs.Prelude.{Option, None, Some}
 use Prim.Native.Nat.{ℕ, zero, suc, ◌+◌, ◌%◌, ◌≤◌, ◌<◌}
 use mathlib.Core.Path.{◌≡◌, refl, sym, ap, ◌∙◌}
 use mathlib.Core.Logic.{◌≢◌}
@@ -12,12 +13,8 @@ use lib.Dec.{eqb, ltb, leb}
 use lib.ListN.{length}
 use Rattle.words.specs.Choose.{choose}
 use Rattle.words.specs.Points.{use_point, instruction_of, is_use, previous, previous_of}
-use Rattle.words.specs.declared.Spot.{Spot}
-use Rattle.words.specs.declared.Spot.TheVariants.{Nothing, Point}
 use Rattle.rules.specs.declared.Choice.{Choice}
 use Rattle.rules.specs.declared.Choice.TheVariants.{AllBlocked, Take}
-use Rattle.rules.specs.declared.Holder.{Holder}
-use Rattle.rules.specs.declared.Holder.TheVariants as h
 use Rattle.rules.specs.declared.Mode.{Mode}
 use Rattle.rules.specs.declared.Piece.{Piece}
 use Rattle.rules.specs.declared.Place.{Place}
@@ -73,9 +70,9 @@ module _ (pos : ℕ → Pos) (scratch lo hi : ℕ) where
 
 -- ---- the active record that holds register r
 module _ (s : State) (r : ℕ) where
-  abbrev pub HolderIs : List ℕ → Holder → Type 0
-  HolderIs js h.Free = (j : ℕ) → Memᴰ j js → (at s.pieces j).place ≢ Register r
-  HolderIs js (h.Held j) = Memᴰ j js × ((at s.pieces j).place ≡ Register r)
+  abbrev pub HolderIs : List ℕ → Option ℕ → Type 0
+  HolderIs js None = (j : ℕ) → Memᴰ j js → (at s.pieces j).place ≢ Register r
+  HolderIs js (Some j) = Memᴰ j js × ((at s.pieces j).place ≡ Register r)
 
   place_is : (w : Place) → is_register r w ≡ true → w ≡ Register r
   place_is Nowhere e = let z : ◌≡◌ {A = ℕ} 0 1 = cc in absurd (omega arith)
@@ -90,14 +87,14 @@ module _ (s : State) (r : ℕ) where
   holder_is [] = λ j m. absurd (Memᴰ.not-nil m)
   holder_is (i ∷ js) = go (is_register r (at s.pieces i).place) refl (holder_in s r js) (holder_is js)
     where
-      go : (b : Bool) → is_register r (at s.pieces i).place ≡ b → (x : Holder) → HolderIs js x → HolderIs (i ∷ js) (choose b (h.Held i) x)
+      go : (b : Bool) → is_register r (at s.pieces i).place ≡ b → (x : Option ℕ) → HolderIs js x → HolderIs (i ∷ js) (choose b (Some i) x)
       go true e x k = (Memᴰ.head refl, place_is (at s.pieces i).place e)
-      go false e h.Free k = by
+      go false e None k = by
         where
           by : (j : ℕ) → Memᴰ j (i ∷ js) → (at s.pieces j).place ≢ Register r
           by j (Memᴰ.head d) = rw d (place_not (at s.pieces i).place e)
           by j (Memᴰ.tail m) = k j m
-      go false e (h.Held j) k = (Memᴰ.tail k.0, k.1)
+      go false e (Some j) k = (Memᴰ.tail k.0, k.1)
 
 -- ---- positions: what is above f lies above it in both
 pub lower_above : (f : ℕ) (x y : Pos) → below (At f) (lower_of x y) ≡ true → (below (At f) x ≡ true) × (below (At f) y ≡ true)
@@ -124,26 +121,26 @@ record Between (v a p : ℕ) : Type 0 where
   pub below : p < a
   pub even : p % 2 ≡ 0
 
-previous_is : (a p : ℕ) → previous a ≡ Point p → a ≡ p + 1
+previous_is : (a p : ℕ) → previous a ≡ Some p → a ≡ p + 1
 previous_is zero p e = let z : ◌≡◌ {A = ℕ} 0 1 = cc in absurd (omega arith)
 previous_is (suc a) p e = let z : a ≡ p = cc in omega arith
 
-previous_of_is : (x : Spot) (p : ℕ) → previous_of x ≡ Point p → x ≡ Point (p + 1)
-previous_of_is Nothing p e = let z : ◌≡◌ {A = ℕ} 0 1 = cc in absurd (omega arith)
-previous_of_is (Point y) p e = ap Point (previous_is y p e)
+previous_of_is : (x : Option ℕ) (p : ℕ) → previous_of x ≡ Some p → x ≡ Some (p + 1)
+previous_of_is None p e = let z : ◌≡◌ {A = ℕ} 0 1 = cc in absurd (omega arith)
+previous_of_is (Some y) p e = ap Some (previous_is y p e)
 
-near_end_lem : (v a p : ℕ) → near_end v a ≡ Point p → Between v a p
+near_end_lem : (v a p : ℕ) → near_end v a ≡ Some p → Between v a p
 near_end_lem v a p e = go (is_use a) refl e
   where
-    if : (x : Spot) → if_above v x ≡ Point p → (x ≡ Point p) × (v < p)
-    if Nothing d = let z : ◌≡◌ {A = ℕ} 0 1 = cc in absurd (omega arith)
-    if (Point y) d = by (ltb v y) refl d
+    if : (x : Option ℕ) → if_above v x ≡ Some p → (x ≡ Some p) × (v < p)
+    if None d = let z : ◌≡◌ {A = ℕ} 0 1 = cc in absurd (omega arith)
+    if (Some y) d = by (ltb v y) refl d
       where
-        by : (b : Bool) → ltb v y ≡ b → choose b (Point y) Nothing ≡ Point p → (Point y ≡ Point p) × (v < p)
+        by : (b : Bool) → ltb v y ≡ b → choose b (Some y) None ≡ Some p → (Some y ≡ Some p) × (v < p)
         by true k o = let z : y ≡ p = cc in (o, omega (arith, ltb-true v y k))
         by false k o = let z : ◌≡◌ {A = ℕ} 0 1 = cc in absurd (omega arith)
 
-    go : (b : Bool) → is_use a ≡ b → if_above v (choose b (previous_of (previous a)) (previous a)) ≡ Point p → Between v a p
+    go : (b : Bool) → is_use a ≡ b → if_above v (choose b (previous_of (previous a)) (previous a)) ≡ Some p → Between v a p
     go true d k =
         let o = if (previous_of (previous a)) k in
         let m = previous_is a (p + 1) (previous_of_is (previous a) p o.0) in
@@ -155,28 +152,28 @@ near_end_lem v a p e = go (is_use a) refl e
         let n : a % 2 ≢ 0 = eqb-false (a % 2) 0 d in
         record { above = o.1; below = omega arith; even = omega arith }
 
-near_use_lem : (v a p : ℕ) → near_use v a ≡ Point p → Between v a p
+near_use_lem : (v a p : ℕ) → near_use v a ≡ Some p → Between v a p
 near_use_lem v a p e = go (ltb (use_point (instruction_of v + 1)) a) refl e
   where
-    go : (b : Bool) → ltb (use_point (instruction_of v + 1)) a ≡ b → choose b (Point (use_point (instruction_of v + 1))) Nothing ≡ Point p → Between v a p
+    go : (b : Bool) → ltb (use_point (instruction_of v + 1)) a ≡ b → choose b (Some (use_point (instruction_of v + 1))) None ≡ Some p → Between v a p
     go true d k = let z : use_point (instruction_of v + 1) ≡ p = cc in let l = ltb-true (use_point (instruction_of v + 1)) a d in record { above = omega arith; below = omega arith; even = omega arith }
     go false d k = let z : ◌≡◌ {A = ℕ} 0 1 = cc in absurd (omega arith)
 
-pub partial_is : (m : Mode) (start : ℕ) (points : List ℕ) (a p : ℕ) → ((v : ℕ) → last_use a points ≡ Point v → start ≤ v) → partial_place m start points a ≡ Point p → (start < p) × (p < a) × (p % 2 ≡ 0)
+pub partial_is : (m : Mode) (start : ℕ) (points : List ℕ) (a p : ℕ) → ((v : ℕ) → last_use a points ≡ Some v → start ≤ v) → partial_place m start points a ≡ Some p → (start < p) × (p < a) × (p % 2 ≡ 0)
 unfolding partial_place
 partial_is m start points a p f e = go m.partial_split m.partial_split_near_end e
   where
     low : start ≤ or_start start (last_use a points)
     low = by (last_use a points) refl
       where
-        by : (x : Spot) → last_use a points ≡ x → start ≤ or_start start x
-        by Nothing d = omega arith
-        by (Point y) d = f y d
+        by : (x : Option ℕ) → last_use a points ≡ x → start ≤ or_start start x
+        by None d = omega arith
+        by (Some y) d = f y d
 
     so : Between (or_start start (last_use a points)) a p → (start < p) × (p < a) × (p % 2 ≡ 0)
     so b = (omega (arith, b.above, low), b.below, b.even)
 
-    go : (x y : Bool) → choose x (choose y (near_end (or_start start (last_use a points)) a) (near_use (or_start start (last_use a points)) a)) Nothing ≡ Point p → (start < p) × (p < a) × (p % 2 ≡ 0)
+    go : (x y : Bool) → choose x (choose y (near_end (or_start start (last_use a points)) a) (near_use (or_start start (last_use a points)) a)) None ≡ Some p → (start < p) × (p < a) × (p % 2 ≡ 0)
     go true true d = so (near_end_lem (or_start start (last_use a points)) a p d)
     go true false d = so (near_use_lem (or_start start (last_use a points)) a p d)
     go false y d = let z : ◌≡◌ {A = ℕ} 0 1 = cc in absurd (omega arith)

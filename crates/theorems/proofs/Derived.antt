@@ -1,5 +1,6 @@
 -- What follows of the invariant once a record is popped and step 1 has run: B4 to B8.
 -- Assumes accepted tables.
+use Rattle.std.specs.Prelude.{Some}
 use Prim.Native.Nat.{ℕ, ◌≤◌, ◌<◌}
 use mathlib.Core.Path.{◌≡◌, refl}
 use mathlib.Core.Logic.{◌≢◌, inr, ⊎_elim}
@@ -13,7 +14,6 @@ use Rattle.words.specs.Packed.{fragment_in, register_at}
 use Rattle.rules.specs.declared.Place.{Place}
 use Rattle.rules.specs.declared.Place.TheVariants.{Nowhere, Register, Slot}
 use Rattle.rules.specs.declared.Pos.TheVariants.{At}
-use Rattle.words.specs.declared.Spot.TheVariants.{Point}
 use Rattle.rules.specs.Tables.{Tables}
 use Rattle.rules.specs.Accepted.{Accepted}
 use Rattle.rules.specs.Uses.{next_use}
@@ -105,7 +105,7 @@ module _ (g : Given) (ok : Accepted g.tables) (small : g.capacity ≤ 16384) (S 
     above_start e b f = (unfixed_at T ok a.register S e in_here not_fixed_active b f).0
 
     -- B8: its next use from S is no fragment start, so "the least of the two" is never a tie
-    pub no_tie : (e b z : ℕ) → first_start S e (fragments_of g a.register) ≡ At b → next_use S (points_of g (at s.pieces j)) ≡ Point z → z ≢ b
+    pub no_tie : (e b z : ℕ) → first_start S e (fragments_of g a.register) ≡ At b → next_use S (points_of g (at s.pieces j)) ≡ Some z → z ≢ b
     no_tie e b z f u t =
         let k : StartIs S e (fragments_of g a.register) (At b) = rw f at (start_is S e (fragments_of g a.register)) in
         let n : Least S (points_of g (at s.pieces j)) z = rw u at (next_is S (points_of g (at s.pieces j))) in

@@ -1,5 +1,6 @@
 -- Every done result obeys the placement rules, so the checker accepts it.
 -- Assumes nothing.
+use Rattle.std.specs.Prelude.{Option, None, Some}
 use Prim.Native.Nat.{ℕ, ◌*◌, ◌≤◌}
 use mathlib.Core.Path.{◌≡◌, refl, sym, ap}
 use mathlib.Core.Bool.{Bool, true, false, ◌||◌}
@@ -12,8 +13,6 @@ use Rattle.words.specs.Choose.{choose}
 use Rattle.words.specs.Packed.{record_words}
 use Rattle.rules.specs.declared.Answer.{Answer}
 use Rattle.rules.specs.declared.Answer.TheVariants.{Done, OverLimit}
-use Rattle.rules.specs.declared.Asked.{Asked}
-use Rattle.rules.specs.declared.Asked.TheVariants.{Unknown, Known}
 use Rattle.rules.specs.declared.Check.{Check}
 use Rattle.rules.specs.declared.Check.TheVariants.{Fine, Refused}
 use Rattle.rules.specs.declared.Mode.{Mode}
@@ -84,9 +83,9 @@ assign_obeys o T out work = by (strategy_of o.strategy)
     refused : (a : Answer) → 2 ≤ number a → Obeys T out (record { answer = a; leaves = out })
     refused a h = record { sound = λ n t e. not_done a n t h e; within = λ n t e. not_done a n t h e; rules = λ n t e. not_done a n t h e }
 
-    by : (y : Asked) → Obeys T out (assign_by o T out work y)
-    by Unknown = refused _ (omega arith)
-    by (Known y) = go (check T (capacity out) work) refl (check_entry T (capacity out) work)
+    by : (y : Option Strategy) → Obeys T out (assign_by o T out work y)
+    by None = refused _ (omega arith)
+    by (Some y) = go (check T (capacity out) work) refl (check_entry T (capacity out) work)
       where
         go : (k : Check) → check T (capacity out) work ≡ k → AtEntry k → Obeys T out (unless_refused k out (finish (run_for (mode_of y o) T (capacity out)) out))
         go Fine e h =

@@ -1,5 +1,6 @@
 -- The run: it begins with the invariant, every turn keeps it, and nothing is queued behind the last start popped.
 -- Assumes accepted tables.
+use Rattle.std.specs.Prelude.{None, Some}
 use Prim.Native.Nat.{ℕ, zero, suc, ◌/◌, ◌≤◌, ◌<◌}
 use mathlib.Core.Path.{◌≡◌, refl, ap, ◌∙◌}
 use mathlib.Core.Logic.{inl, inr, ⊎_elim}
@@ -9,7 +10,6 @@ use native.Mathlib.Decide.{ℕ_discrete}
 use lib.ListN.{length, get_or, replicate, length-replicate}
 use Rattle.words.specs.Packed.{interval_count}
 use Rattle.words.proofs.Rows.{length_tab, get_d_tab}
-use Rattle.rules.specs.declared.Home.TheVariants.{Unspilled, Spilled}
 use Rattle.rules.specs.declared.Piece.{Piece}
 use Rattle.rules.specs.Tables.{Tables}
 use Rattle.rules.specs.Accepted.{Accepted}
@@ -24,12 +24,12 @@ use Rattle.theorems.proofs.Changes.{Or, inv_enqueue, inv_pop}
 use Rattle.theorems.proofs.Spill.{good_on}
 use Rattle.theorems.proofs.Steps.{step_keeps, step_ok}
 
-no_home : (n v t : ℕ) → get_or (replicate n Unspilled) v Unspilled ≡ Spilled t → ⊥
+no_home : (n v t : ℕ) → get_or (replicate n None) v None ≡ Some t → ⊥
 no_home zero v t e = let q : ◌≡◌ {A = ℕ} 0 1 = cc in omega arith
 no_home (suc n) zero t e = let q : ◌≡◌ {A = ℕ} 0 1 = cc in omega arith
 no_home (suc n) (suc v) t e = no_home n v t e
 
-no_homes : (n : ℕ) → spilled_homes (replicate n Unspilled) ≡ 0
+no_homes : (n : ℕ) → spilled_homes (replicate n None) ≡ 0
 unfolding spilled_homes
 no_homes zero = refl
 no_homes (suc n) = no_homes n
@@ -114,7 +114,7 @@ module _ (g : Given) (ok : Accepted g.tables) (small : g.capacity ≤ 16384) whe
         waiting = λ x m y. mathlib.Core.List.Memᴰ.not-nil m;
         slots =
             record {
-              long = length-replicate N Unspilled;
+              long = length-replicate N None;
               multiple = λ v t e. absurd (no_home N v t e);
               under = λ v t e. absurd (no_home N v t e);
               apart = λ u v x y d e f. absurd (no_home N u x e);

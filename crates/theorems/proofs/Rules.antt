@@ -1,5 +1,6 @@
 -- At the end of a run: the invariant, and nothing queued, give the placement rules 1 to 7 of the records written.
 -- Assumes accepted tables.
+use Rattle.std.specs.Prelude.{None, Some}
 use Prim.Native.Nat.{ℕ, zero, suc, ◌+◌, ◌*◌, ◌^◌, ◌≤◌, ◌<◌}
 use mathlib.Core.Path.{◌≡◌, refl, sym, ap, ◌∙◌}
 use mathlib.Core.Logic.{◌≢◌, ◌⊎◌, inl, inr, ⊎_elim}
@@ -13,7 +14,6 @@ use Rattle.words.specs.Points.{def_point}
 use Rattle.words.specs.Packed.{size_of, interval_count, record_at, record_in, RecordFits}
 use Rattle.words.specs.declared.Record.{Record}
 use Rattle.words.proofs.Packed.{record_back}
-use Rattle.rules.specs.declared.Home.TheVariants.{Unspilled, Spilled}
 use Rattle.rules.specs.declared.Piece.{Piece}
 use Rattle.rules.specs.declared.Place.{Place}
 use Rattle.rules.specs.declared.Place.TheVariants.{Nowhere, Register, Slot}
@@ -61,7 +61,7 @@ module _ (g : Given) (ok : Accepted g.tables) (l : ℕ) (s : State) (i : Inv g l
   in_register_lem : (k r : ℕ) → k < length s.pieces → (at s.pieces k).place ≡ Register r → InRegOf T l s.active k (at s.pieces k).interval (at s.pieces k).start (at s.pieces k).end (at s.pieces k).mentions (at s.pieces k).safepoints r
   in_register_lem k r h e = rw e at (here k h)
 
-  in_slot : (k t : ℕ) → k < length s.pieces → (at s.pieces k).place ≡ Slot t → ((at s.pieces k).mentions.count ≡ 0) × (get_or s.homes (at s.pieces k).interval Unspilled ≡ Spilled t)
+  in_slot : (k t : ℕ) → k < length s.pieces → (at s.pieces k).place ≡ Slot t → ((at s.pieces k).mentions.count ≡ 0) × (get_or s.homes (at s.pieces k).interval None ≡ Some t)
   in_slot k t h e = rw e at (here k h)
 
   -- every record has its place
@@ -136,7 +136,7 @@ module _ (g : Given) (ok : Accepted g.tables) (l : ℕ) (s : State) (i : Inv g l
       pub place : (at s.pieces k).place ≡ Slot number
       pub says : (record_at c.words k).number ≡ number
       pub named : (record_at c.words k).interval ≡ (at s.pieces k).interval
-      pub home : get_or s.homes (at s.pieces k).interval Unspilled ≡ Spilled number
+      pub home : get_or s.homes (at s.pieces k).interval None ≡ Some number
 
     of_slot : (k : ℕ) → InSlot T c k → OfSlot k
     of_slot k o =
@@ -228,7 +228,7 @@ module _ (g : Given) (ok : Accepted g.tables) (l : ℕ) (s : State) (i : Inv g l
               let x = of_slot j a in
               let y = of_slot k b in
               let n : (at s.pieces j).interval ≡ (at s.pieces k).interval = sym x.named ∙ e ∙ y.named in
-              let q : Spilled x.number ≡ Spilled y.number = sym x.home ∙ ap (λ (v : ℕ). get_or s.homes v Unspilled) n ∙ y.home in
+              let q : Some x.number ≡ Some y.number = sym x.home ∙ ap (λ (v : ℕ). get_or s.homes v None) n ∙ y.home in
               x.says ∙ (let z : x.number ≡ y.number = cc in z) ∙ sym y.says;
           multiple = λ k o. let x = of_slot k o in rw (x.says, x.named) (i.slots.multiple _ x.number x.home);
           apart = λ j k a b p.
@@ -243,10 +243,10 @@ module _ (g : Given) (ok : Accepted g.tables) (l : ℕ) (s : State) (i : Inv g l
                     (i.slots.apart _ _ x.number y.number d x.home y.home))
               ]);
           most = λ k o. let x = of_slot k o in rw (x.says, x.named) (omega (arith, i.slots.under _ x.number x.home));
-          reached = ⊎_elim (λ (z : s.total ≡ 0). inl (total ∙ z)) (λ (z : (v : ℕ) × (t : ℕ) × (get_or s.homes v Unspilled ≡ Spilled t) × (s.total ≡ t + size_of (interval T v))). inr (top z)) i.slots.top;
+          reached = ⊎_elim (λ (z : s.total ≡ 0). inl (total ∙ z)) (λ (z : (v : ℕ) × (t : ℕ) × (get_or s.homes v None ≡ Some t) × (s.total ≡ t + size_of (interval T v))). inr (top z)) i.slots.top;
         }
       where
-        top : (v : ℕ) × (t : ℕ) × (get_or s.homes v Unspilled ≡ Spilled t) × (s.total ≡ t + size_of (interval T v))
+        top : (v : ℕ) × (t : ℕ) × (get_or s.homes v None ≡ Some t) × (s.total ≡ t + size_of (interval T v))
             → (k : ℕ) × InSlot T c k × (c.total ≡ (rec T c k).number + size_of (interval T (rec T c k).interval))
         top (v, t, e, f) =
             let u = i.used v t e in

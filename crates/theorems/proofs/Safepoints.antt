@@ -1,5 +1,6 @@
 -- Step 5: a record that took its register keeps it with Def of its first safepoint as a mention point, or is cut before that safepoint, or is spilled.
 -- Assumes accepted tables.
+use Rattle.std.specs.Prelude.{Option, None, Some}
 use Prim.Native.Nat.{ℕ, ◌+◌, ◌≤◌, ◌<◌}
 use mathlib.Core.Path.{◌≡◌, refl, sym, ap, ◌∙◌}
 use mathlib.Core.Logic.{◌≢◌, inl, inr, ⊎_elim}
@@ -11,8 +12,6 @@ use borrow.Author.Tests.{eqb-true, eqb-false}
 use lib.Dec.{eqb}
 use lib.ListN.{length, get_or}
 use Rattle.words.specs.Points.{use_point, def_point}
-use Rattle.words.specs.declared.Spot.{Spot}
-use Rattle.words.specs.declared.Spot.TheVariants.{Nothing, Point}
 use Rattle.rules.specs.declared.Piece.{Piece}
 use Rattle.rules.specs.declared.Place.TheVariants.{Nowhere, Register, Slot}
 use Rattle.rules.specs.Tables.{Tables}
@@ -142,12 +141,12 @@ module _ (g : Given) (ok : Accepted g.tables) (small : g.capacity ≤ 16384) whe
           let both : first_point T m ≢ use_point x = λ v. not-def (redefined T ok (at s.pieces k).interval sh.named (at s.pieces k).safepoints.index m first (mine m a) (v ∙ ap use_point ex) ∙ ap def_point (sym ex)) in
           (both, λ v. elim (dec_lt (first_point T m) (last_point T m)) [ yes b ↦ absurd (omega (arith, p.even b, p.near)) | no b ↦ both (omega (arith, p.up)) ])
 
-      choice : (f : Spot) → LastIs (def_point x) (points_of g (at s.pieces k)) f → Good (Inv g S NoOne) (keep_or_spill g s k x f)
+      choice : (f : Option ℕ) → LastIs (def_point x) (points_of g (at s.pieces k)) f → Good (Inv g S NoOne) (keep_or_spill g s k x f)
       unfolding keep_or_spill
-      choice Nothing n =
+      choice None n =
           good_imp (Tailed g ok small S NoOne s k) (Inv g S NoOne) (go_on (split_if_any g s k (next_use (def_point x) (points_of g (at s.pieces k)))) (λ t. goes (spill g t k))) (λ t c. c.inv)
           (tail_spill g ok small S NoOne s k d.inv d.here (λ o. o) noslot (def_point x) (omega (arith, d.begins, lo)) (omega (arith, lo)) (λ m a. n _ (has_first T ok (at s.pieces k) sh m a)))
-      choice (Point u) o =
+      choice (Some u) o =
           good_if (Inv g S NoOne) (eqb u (def_point x)) (goes s) (split_and_spill g s k (use_point x))
           (λ e. let q : u ≡ def_point x = eqb-true u (def_point x) e in settle_taken S k r s d (keeps (rw q at o)))
           (λ e. let n : u ≢ def_point x = eqb-false u (def_point x) e in
@@ -159,9 +158,9 @@ module _ (g : Given) (ok : Accepted g.tables) (small : g.capacity ≤ 16384) whe
           settle_taken S k r t d' (λ ref l. absurd (no_safe (at s.pieces k) (at t.pieces k) sh (d'.inv.core.shape k d'.here) c.same_interval c.same_start h (rw (← ex) st.1) (omega (arith, l)))))
           (spill_spec g ok small S (But k) s k d.inv d.here new noslot (inl (inr refl)) (use_point x) (omega (arith, d.begins, lo)) lo hi (clear u n o)))
 
-      choice_ok : (f : Spot) → LastIs (def_point x) (points_of g (at s.pieces k)) f → KeepOk g s k x f
-      choice_ok Nothing n = tail_spill_ok g ok small S NoOne s k d.inv d.here (λ o. o) noslot (def_point x) (omega (arith, d.begins, lo)) (omega (arith, lo)) (λ m a. n _ (has_first T ok (at s.pieces k) sh m a))
-      choice_ok (Point u) o = λ n. spill_ok g ok small S (But k) s k d.inv d.here new noslot (inl (inr refl)) (use_point x) (omega (arith, d.begins, lo)) lo hi (clear u n o)
+      choice_ok : (f : Option ℕ) → LastIs (def_point x) (points_of g (at s.pieces k)) f → KeepOk g s k x f
+      choice_ok None n = tail_spill_ok g ok small S NoOne s k d.inv d.here (λ o. o) noslot (def_point x) (omega (arith, d.begins, lo)) (omega (arith, lo)) (λ m a. n _ (has_first T ok (at s.pieces k) sh m a))
+      choice_ok (Some u) o = λ n. spill_ok g ok small S (But k) s k d.inv d.here new noslot (inl (inr refl)) (use_point x) (omega (arith, d.begins, lo)) lo hi (clear u n o)
 
     fits : (at s.pieces k).safepoints.index + (at s.pieces k).safepoints.count ≤ length T.safepoints
     fits = omega (arith, sh.safes, (ok.intervals (at s.pieces k).interval sh.named).safepoints)

@@ -1,5 +1,6 @@
 -- Lemma Split-and-spill: what it needs and what it leaves.
 -- Assumes accepted tables.
+use Rattle.std.specs.Prelude.{Option, None, Some}
 use Prim.Native.Nat.{ℕ, ◌+◌, ◌≤◌, ◌<◌, min}
 use mathlib.Core.Path.{◌≡◌, refl, sym, ap, ◌∙◌}
 use mathlib.Core.Logic.{◌≢◌, ◌⊎◌, inl, inr, ⊎_elim}
@@ -12,10 +13,7 @@ use lib.Dec.{ltb}
 use lib.ListN.{length, get_or}
 use Rattle.words.specs.Choose.{choose}
 use Rattle.words.specs.Points.{within}
-use Rattle.words.specs.declared.Spot.{Spot}
-use Rattle.words.specs.declared.Spot.TheVariants.{Nothing, Point}
 use Rattle.rules.specs.declared.Answer.TheVariants.{NoRecord}
-use Rattle.rules.specs.declared.Home.TheVariants.{Unspilled, Spilled}
 use Rattle.rules.specs.declared.Piece.{Piece}
 use Rattle.rules.specs.declared.Place.TheVariants.{Nowhere, Slot}
 use Rattle.rules.specs.declared.Strategy.{Strategy}
@@ -68,9 +66,9 @@ pick_within y a b h = go (candidate a b y)
     by x true e = within_true a b x e
     by x false e = (omega arith, h)
 
-    go : (z : Spot) → (a ≤ or_from a b z) × (or_from a b z ≤ b)
-    go Nothing = (omega arith, h)
-    go (Point x) = by x (within a b x) refl
+    go : (z : Option ℕ) → (a ≤ or_from a b z) × (or_from a b z ≤ b)
+    go None = (omega arith, h)
+    go (Some x) = by x (within a b x) refl
 
 module _ (g : Given) (ok : Accepted g.tables) (small : g.capacity ≤ 16384) where
   abbrev T : Tables
@@ -170,16 +168,16 @@ module _ (g : Given) (ok : Accepted g.tables) (small : g.capacity ≤ 16384) whe
     unfolding split_if_any
     cut_tail = by (next_use p (points_of g (at s.pieces j))) (next_is p (points_of g (at s.pieces j)))
       where
-        by : (f : Spot) → NextIs p (points_of g (at s.pieces j)) f → Good (TailCut l X s j p) (split_if_any g s j f)
-        by Nothing n = cut_none n
-        by (Point y) n = good_queue g s j y (TailCut l X s j p) (cut_some y n)
+        by : (f : Option ℕ) → NextIs p (points_of g (at s.pieces j)) f → Good (TailCut l X s j p) (split_if_any g s j f)
+        by None n = cut_none n
+        by (Some y) n = good_queue g s j y (TailCut l X s j p) (cut_some y n)
 
     pub cut_ok : IfAnyOk g s j (next_use p (points_of g (at s.pieces j)))
     cut_ok = by (next_use p (points_of g (at s.pieces j))) (next_is p (points_of g (at s.pieces j)))
       where
-        by : (f : Spot) → NextIs p (points_of g (at s.pieces j)) f → IfAnyOk g s j f
-        by Nothing n = tt
-        by (Point y) n = let c = proper y n in record { here = h; above = c.above; below = c.below }
+        by : (f : Option ℕ) → NextIs p (points_of g (at s.pieces j)) f → IfAnyOk g s j f
+        by None n = tt
+        by (Some y) n = let c = proper y n in record { here = h; above = c.above; below = c.below }
 
   -- ---- and record j is spilled, before or after
   pub record Tailed (l : ℕ) (X : ℕ → Type 0) (s : State) (j : ℕ) (t : State) : Type 0 where
@@ -200,7 +198,7 @@ module _ (g : Given) (ok : Accepted g.tables) (small : g.capacity ≤ 16384) whe
     unused (inr e) = omega arith
 
     -- a spilled record without mentions is as its place asks
-    settle : (t : State) (z : ℕ) → Inv g l (Or X j) t → (at t.pieces j).place ≡ Slot z → (at t.pieces j).mentions.count ≡ 0 → get_or t.homes (at t.pieces j).interval Unspilled ≡ Spilled z → Inv g l X t
+    settle : (t : State) (z : ℕ) → Inv g l (Or X j) t → (at t.pieces j).place ≡ Slot z → (at t.pieces j).mentions.count ≡ 0 → get_or t.homes (at t.pieces j).interval None ≡ Some z → Inv g l X t
     settle t z k e o d = inv_settle g ok l X t j k (rw e (o, d)) (λ r f. register_slot (at t.pieces j).place r z f e)
 
     -- spilled first
@@ -354,9 +352,9 @@ module _ (g : Given) (ok : Accepted g.tables) (small : g.capacity ≤ 16384) whe
     unfolding split_and_spill split_and_spill_by
     spill_spec = by (last_use p (points_of g (at s.pieces c))) (last_is p (points_of g (at s.pieces c)))
       where
-        by : (f : Spot) → LastIs p (points_of g (at s.pieces c)) f → Good (SpilledAt g l X s c p) (split_and_spill_by g s c p f)
-        by Nothing k = spill_none k
-        by (Point u) k =
+        by : (f : Option ℕ) → LastIs p (points_of g (at s.pieces c)) f → Good (SpilledAt g l X s c p) (split_and_spill_by g s c p f)
+        by None k = spill_none k
+        by (Some u) k =
             let o : u ≢ p = not_p u k in
             let m : min (u + 1) p ≡ u + 1 = omega (arith, k.upto) in
             let v = pick_within g.mode.strategy (u + 1) p (omega (arith, k.upto)) in
@@ -369,9 +367,9 @@ module _ (g : Given) (ok : Accepted g.tables) (small : g.capacity ≤ 16384) whe
     pub spill_ok : SpillAtOk g s c p
     spill_ok = by (last_use p (points_of g (at s.pieces c))) (last_is p (points_of g (at s.pieces c)))
       where
-        by : (f : Spot) → LastIs p (points_of g (at s.pieces c)) f → SpillByOk g s c p f
-        by Nothing k = spill_tail_ok l X s c (inv_leave g ok l X s c i q) h (new _ (omega arith)) n p b lo (λ m r. k _ (has_first T ok (at s.pieces c) shc m r))
-        by (Point u) k =
+        by : (f : Option ℕ) → LastIs p (points_of g (at s.pieces c)) f → SpillByOk g s c p f
+        by None k = spill_tail_ok l X s c (inv_leave g ok l X s c i q) h (new _ (omega arith)) n p b lo (λ m r. k _ (has_first T ok (at s.pieces c) shc m r))
+        by (Some u) k =
             let o : u ≢ p = not_p u k in
             let m : min (u + 1) p ≡ u + 1 = omega (arith, k.upto) in
             let v = pick_within g.mode.strategy (u + 1) p (omega (arith, k.upto)) in

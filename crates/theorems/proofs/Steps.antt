@@ -1,5 +1,6 @@
 -- Steps 1 to 4 for a popped record, and the whole step.
 -- Assumes accepted tables.
+use Rattle.std.specs.Prelude.{Option, None, Some}
 use Prim.Native.Nat.{ℕ, ◌+◌, ◌%◌, ◌≤◌, ◌<◌}
 use mathlib.Core.Path.{◌≡◌, refl, sym, ap, ◌∙◌}
 use mathlib.Core.Logic.{◌≢◌, ◌⊎◌, inl, inr, ⊎_elim}
@@ -11,13 +12,9 @@ use borrow.Author.Tests.{eqb-false, ltb-true, leb-true}
 use lib.Dec.{eqb, ltb, leb}
 use lib.ListN.{length}
 use Rattle.words.specs.Choose.{choose}
-use Rattle.words.specs.declared.Spot.{Spot}
-use Rattle.words.specs.declared.Spot.TheVariants.{Nothing, Point}
 use Rattle.rules.specs.declared.Answer.TheVariants.{NoRegister, OutOfRegisters, FixedClash}
 use Rattle.rules.specs.declared.Choice.{Choice}
 use Rattle.rules.specs.declared.Choice.TheVariants.{AllBlocked, Take}
-use Rattle.rules.specs.declared.Holder.{Holder}
-use Rattle.rules.specs.declared.Holder.TheVariants as h
 use Rattle.rules.specs.declared.Piece.{Piece}
 use Rattle.rules.specs.declared.Place.{Place}
 use Rattle.rules.specs.declared.Place.TheVariants.{Nowhere, Register, Slot}
@@ -131,12 +128,12 @@ module _ (g : Given) (ok : Accepted g.tables) (small : g.capacity ≤ 16384) whe
           elim (dec_lt (last_point T j) p) [ yes d ↦ d | no d ↦ let e = q.even (omega arith) in absurd (omega (arith, q.near)) ]
 
   -- where a partial split falls
-  part_spec : (q : Piece) (a p : ℕ) → Shape T q → partial_split g q a ≡ Point p → (q.start < p) × (p < a) × (p % 2 ≡ 0)
+  part_spec : (q : Piece) (a p : ℕ) → Shape T q → partial_split g q a ≡ Some p → (q.start < p) × (p < a) × (p % 2 ≡ 0)
   part_spec q a p s e = partial_is g.mode q.start (points_of g q) a p (λ v u. by (last_use a (points_of g q)) (last_is a (points_of g q)) v u) e
     where
-      by : (y : Spot) → LastIs a (points_of g q) y → (v : ℕ) → y ≡ Point v → q.start ≤ v
-      by Nothing o v u = let z : ◌≡◌ {A = ℕ} 0 1 = cc in absurd (omega arith)
-      by (Point x) o v u = let z : x ≡ v = cc in rw (← z) (spans T ok q s x (whose T ok q s x o.has)).0
+      by : (y : Option ℕ) → LastIs a (points_of g q) y → (v : ℕ) → y ≡ Some v → q.start ≤ v
+      by None o v u = let z : ◌≡◌ {A = ℕ} 0 1 = cc in absurd (omega arith)
+      by (Some x) o v u = let z : x ≡ v = cc in rw (← z) (spans T ok q s x (whose T ok q s x o.has)).0
 
   -- record k has taken r and is cut before its first fragment; the holder of r is still there
   record Ready (S k r : ℕ) (s₀ s : State) : Type 0 where
@@ -188,9 +185,9 @@ module _ (g : Given) (ok : Accepted g.tables) (small : g.capacity ≤ 16384) whe
     own_ok ab = tail_spill_ok g ok small S NoOne s k d.inv d.here (λ o. o) noslot (at s.pieces k).start (omega (arith, d.begins)) (omega arith) ab
 
     -- what holds a register that may be taken: B4, B6
-    holder_free : (r : ℕ) → holder s r ≡ h.Free → (m : ℕ) → m < length s.pieces → m ≢ k → (at s.pieces m).place ≡ Register r → (at s.pieces m).end < S
+    holder_free : (r : ℕ) → holder s r ≡ None → (m : ℕ) → m < length s.pieces → m ≢ k → (at s.pieces m).place ≡ Register r → (at s.pieces m).end < S
     holder_free r e m a n p =
-        let f : HolderIs s r s.active h.Free = rw e at (holder_is s r s.active) in
+        let f : HolderIs s r s.active None = rw e at (holder_is s r s.active) in
         let x = rw p at (d.inv.held m a (out m n)) in
         elim (dec_lt (at s.pieces m).end S) [ yes l ↦ l | no l ↦ absurd (f m (x.tracked (omega arith)) p) ]
       where
@@ -205,9 +202,9 @@ module _ (g : Given) (ok : Accepted g.tables) (small : g.capacity ≤ 16384) whe
       pub begun : (at s.pieces j).start ≤ S
       pub lasts : S ≤ (at s.pieces j).end
 
-    holder_held : (r j : ℕ) → holder s r ≡ h.Held j → Holds r j
+    holder_held : (r j : ℕ) → holder s r ≡ Some j → Holds r j
     holder_held r j e =
-        let f : HolderIs s r s.active (h.Held j) = rw e at (holder_is s r s.active) in
+        let f : HolderIs s r s.active (Some j) = rw e at (holder_is s r s.active) in
         let x = d.active j f.0 in
         let a : j < length s.pieces = registered s.pieces j x.0 in
         let n : j ≢ k = λ o. nowhere_register (at s.pieces j).place r (rw o d.free) f.1 in
@@ -316,13 +313,13 @@ module _ (g : Given) (ok : Accepted g.tables) (small : g.capacity ≤ 16384) whe
           good_if (Ready S k r s) (is_point b (points_of g (piece (take_register s k r) k))) (stops (FixedClash k)) (cut_at g (take_register s k r) k b (partial_split g (piece (take_register s k r) k) b))
           (λ x. tt) (λ x. at_b (partial_split g (piece (take_register s k r) k) b) refl x)
         where
-          at_b : (z : Spot) → partial_split g (piece (take_register s k r) k) b ≡ z → is_point b (points_of g (piece (take_register s k r) k)) ≡ false → Good (Ready S k r s) (cut_at g (take_register s k r) k b z)
-          at_b Nothing q x =
+          at_b : (z : Option ℕ) → partial_split g (piece (take_register s k r) k) b ≡ z → is_point b (points_of g (piece (take_register s k r) k)) ≡ false → Good (Ready S k r s) (cut_at g (take_register s k r) k b z)
+          at_b None q x =
               let w = whose T ok (at s.pieces k) sh f o.has in
               good_imp (SpilledAt g S (But k) (take_register s k r) k b) (Ready S k r s) (split_and_spill g (take_register s k r) k b)
               (λ t c. ready_cut b b (omega arith) (until b e).2 t c (c.stays w.who (rw took w.inside) (omega (arith, ltb-true f b l, (spans T ok (at s.pieces k) sh f w).2))))
               (spill_b b e x).0
-          at_b (Point p) q x =
+          at_b (Some p) q x =
               let u = until b e in
               let v = part_spec (at s.pieces k) b p sh (rw took at q) in
               good_imp (CutOff S k p (take_register s k r)) (Ready S k r s) (split_and_queue g (take_register s k r) k p) (λ t c. ready_cut p b (omega (arith, v.1)) u.2 t c.0 c.1)
@@ -333,14 +330,14 @@ module _ (g : Given) (ok : Accepted g.tables) (small : g.capacity ≤ 16384) whe
       cut_ok Never e = tt
       cut_ok (At b) e = λ x. at_b (partial_split g (piece (take_register s k r) k) b) refl x
         where
-          at_b : (z : Spot) → partial_split g (piece (take_register s k r) k) b ≡ z → is_point b (points_of g (piece (take_register s k r) k)) ≡ false → CutAtOk g (take_register s k r) k b z
-          at_b Nothing q x = (spill_b b e x).1
-          at_b (Point p) q x =
+          at_b : (z : Option ℕ) → partial_split g (piece (take_register s k r) k) b ≡ z → is_point b (points_of g (piece (take_register s k r) k)) ≡ false → CutAtOk g (take_register s k r) k b z
+          at_b None q x = (spill_b b e x).1
+          at_b (Some p) q x =
               let v = part_spec (at s.pieces k) b p sh (rw took at q) in
               record { here = omega (arith, took_length, d.here); above = rw took v.0; below = rw took (omega (arith, v.1, (until b e).1)) }
 
       -- r is free: no active record holds it
-      ready_free : holder s r ≡ h.Free → (t : State) → Ready S k r s t → Taken g ok small S k r t
+      ready_free : holder s r ≡ None → (t : State) → Ready S k r s t → Taken g ok small S k r t
       ready_free e t y =
           record {
             inv = y.inv;
@@ -395,7 +392,7 @@ module _ (g : Given) (ok : Accepted g.tables) (small : g.capacity ≤ 16384) whe
           go m a n p (no l) (no e) = absurd (not_register (at u.pieces m).place r (c.fresh m (omega arith) a) p)
 
       -- step 4, "then split-and-spill at S the active piece that held it": its next use is above f, so S is no mention point of it
-      spill_h : (f : ℕ) → (at s.pieces k).start ≤ f → (j : ℕ) → holder s r ≡ h.Held j → below (At f) (next_use_of g s (at s.pieces k).start (h.Held j)) ≡ true → (t : State) → Ready S k r s t
+      spill_h : (f : ℕ) → (at s.pieces k).start ≤ f → (j : ℕ) → holder s r ≡ Some j → below (At f) (next_use_of g s (at s.pieces k).start (Some j)) ≡ true → (t : State) → Ready S k r s t
           → Good (SpilledAt g S (But k) t j S) (split_and_spill g t j S) × SpillAtOk g t j S
       spill_h f lo j e b t y =
           spill_both g ok small S (But k) t j y.inv (omega (arith, o.here, y.grows)) new (λ z p. register_slot (at t.pieces j).place r z (rw same o.place) p) (inr (λ p. nowhere_register (at t.pieces j).place r p (rw same o.place)))
@@ -414,21 +411,21 @@ module _ (g : Given) (ok : Accepted g.tables) (small : g.capacity ≤ 16384) whe
           sj : Shape T (at s.pieces j)
           sj = d.inv.core.shape j o.here
 
-          clear : (z : Spot) → NextIs S (points_of g (at s.pieces j)) z → below (At f) (pos_of_use z) ≡ true → Clear g (at s.pieces j) S
-          clear Nothing n p m a = (λ v. omega (arith, n _ (has_first T ok (at s.pieces j) sj m a)), λ v. omega (arith, n _ (has_last T ok (at s.pieces j) sj m a)))
-          clear (Point z) n p m a =
+          clear : (z : Option ℕ) → NextIs S (points_of g (at s.pieces j)) z → below (At f) (pos_of_use z) ≡ true → Clear g (at s.pieces j) S
+          clear None n p m a = (λ v. omega (arith, n _ (has_first T ok (at s.pieces j) sj m a)), λ v. omega (arith, n _ (has_last T ok (at s.pieces j) sj m a)))
+          clear (Some z) n p m a =
               let l : f < z = ltb-true f z p in
               (λ v. omega (arith, start_S, n.least _ (has_first T ok (at s.pieces j) sj m a) (omega arith)), λ v. omega (arith, start_S, n.least _ (has_last T ok (at s.pieces j) sj m a) (omega arith)))
 
-      steal_keeps : (f : ℕ) → (at s.pieces k).start ≤ f → (x : Holder) → holder s r ≡ x → below (At f) (next_use_of g s (at s.pieces k).start x) ≡ true
+      steal_keeps : (f : ℕ) → (at s.pieces k).start ≤ f → (x : Option ℕ) → holder s r ≡ x → below (At f) (next_use_of g s (at s.pieces k).start x) ≡ true
           → (t : State) → Ready S k r s t → Good (Placed S k) (spill_holder g t (at s.pieces k).start x)
       unfolding spill_holder
-      steal_keeps f lo h.Free e b t y = inr (r, ready_free e t y)
-      steal_keeps f lo (h.Held j) e b t y = rw start_S (good_imp (SpilledAt g S (But k) t j S) (Placed S k) (split_and_spill g t j S) (λ u c. inr (r, ready_stolen j (holder_held r j e) t y u c)) (spill_h f lo j e b t y).0)
+      steal_keeps f lo None e b t y = inr (r, ready_free e t y)
+      steal_keeps f lo (Some j) e b t y = rw start_S (good_imp (SpilledAt g S (But k) t j S) (Placed S k) (split_and_spill g t j S) (λ u c. inr (r, ready_stolen j (holder_held r j e) t y u c)) (spill_h f lo j e b t y).0)
 
-      steal_ok : (f : ℕ) → (at s.pieces k).start ≤ f → (x : Holder) → holder s r ≡ x → below (At f) (next_use_of g s (at s.pieces k).start x) ≡ true → (t : State) → Ready S k r s t → HolderOk g t (at s.pieces k).start x
-      steal_ok f lo h.Free e b t y = tt
-      steal_ok f lo (h.Held j) e b t y = rw start_S (spill_h f lo j e b t y).1
+      steal_ok : (f : ℕ) → (at s.pieces k).start ≤ f → (x : Option ℕ) → holder s r ≡ x → below (At f) (next_use_of g s (at s.pieces k).start x) ≡ true → (t : State) → Ready S k r s t → HolderOk g t (at s.pieces k).start x
+      steal_ok f lo None e b t y = tt
+      steal_ok f lo (Some j) e b t y = rw start_S (spill_h f lo j e b t y).1
 
       take_over_lem : (f : ℕ) → Least (at s.pieces k).start (points_of g (at s.pieces k)) f → below (At f) (next_use_of g s (at s.pieces k).start (holder s r)) ≡ true
           → below (At f) (first_start (at s.pieces k).start (at s.pieces k).end (fragments_of g r)) ≡ true → Good (Placed S k) (take_over g s k r)
@@ -447,7 +444,7 @@ module _ (g : Given) (ok : Accepted g.tables) (small : g.capacity ≤ 16384) whe
       )
 
     -- ---- step 4
-    module _ (f : ℕ) (e : next_use (at s.pieces k).start (points_of g (at s.pieces k)) ≡ Point f) where
+    module _ (f : ℕ) (e : next_use (at s.pieces k).start (points_of g (at s.pieces k)) ≡ Some f) where
       uses : Least (at s.pieces k).start (points_of g (at s.pieces k)) f
       uses = rw e at (next_is (at s.pieces k).start (points_of g (at s.pieces k)))
 
@@ -489,41 +486,41 @@ module _ (g : Given) (ok : Accepted g.tables) (small : g.capacity ≤ 16384) whe
       weigh_ok (Take r p) o = (λ b. let y = reach r p o.is b in take_over_ok r (usable (at s.pieces k) r p o) y.0 f uses y.1 y.2, λ b. until_ok)
 
     -- no next use: all mentions lie above S, since there is none
-    no_use : next_use (at s.pieces k).start (points_of g (at s.pieces k)) ≡ Nothing → Above g ok small (at s.pieces k) (at s.pieces k).start
-    no_use e m a = let n : NextIs (at s.pieces k).start (points_of g (at s.pieces k)) Nothing = rw e at (next_is (at s.pieces k).start (points_of g (at s.pieces k))) in absurd (omega (arith, n _ (has_first T ok (at s.pieces k) sh m a), sh.ments.starts m a.0 a.1))
+    no_use : next_use (at s.pieces k).start (points_of g (at s.pieces k)) ≡ None → Above g ok small (at s.pieces k) (at s.pieces k).start
+    no_use e m a = let n : NextIs (at s.pieces k).start (points_of g (at s.pieces k)) None = rw e at (next_is (at s.pieces k).start (points_of g (at s.pieces k))) in absurd (omega (arith, n _ (has_first T ok (at s.pieces k) sh m a), sh.ments.starts m a.0 a.1))
 
     blocked_keeps : Good (Placed S k) (allocate_blocked g s k)
     unfolding allocate_blocked blocked_by split_if_any
     blocked_keeps = by (next_use (at s.pieces k).start (points_of g (at s.pieces k))) refl
       where
-        by : (x : Spot) → next_use (at s.pieces k).start (points_of g (at s.pieces k)) ≡ x → Good (Placed S k) (blocked_by g s k x)
-        by Nothing e = rw e at (own_tail (no_use e))
-        by (Point f) e =
+        by : (x : Option ℕ) → next_use (at s.pieces k).start (points_of g (at s.pieces k)) ≡ x → Good (Placed S k) (blocked_by g s k x)
+        by None e = rw e at (own_tail (no_use e))
+        by (Some f) e =
             good_if (Placed S k) (only_scratch (class_of g (piece s k))) (stops (NoRegister k)) (weigh g s k f (furthest_of (class_of g (piece s k)) (next_use_pos g s (piece s k))))
             (λ x. tt) (λ x. weigh_keeps f e (furthest_of (class_of g (piece s k)) (next_use_pos g s (piece s k))) (chosen (next_use_pos g s (at s.pieces k)) (at s.pieces k)))
 
     blocked_ok : BlockedOk g s k
     blocked_ok = by (next_use (at s.pieces k).start (points_of g (at s.pieces k))) refl
       where
-        by : (x : Spot) → next_use (at s.pieces k).start (points_of g (at s.pieces k)) ≡ x → BlockedByOk g s k x
-        by Nothing e = record { here = d.here; unspilled = noslot }
-        by (Point f) e = λ x. weigh_ok f e (furthest_of (class_of g (piece s k)) (next_use_pos g s (piece s k))) (chosen (next_use_pos g s (at s.pieces k)) (at s.pieces k))
+        by : (x : Option ℕ) → next_use (at s.pieces k).start (points_of g (at s.pieces k)) ≡ x → BlockedByOk g s k x
+        by None e = record { here = d.here; unspilled = noslot }
+        by (Some f) e = λ x. weigh_ok f e (furthest_of (class_of g (piece s k)) (next_use_pos g s (piece s k))) (chosen (next_use_pos g s (at s.pieces k)) (at s.pieces k))
 
     -- ---- steps 2 and 3
     -- a register that is not blocked has no active record and no fragment at S
     open_until : (r : ℕ) (p : Pos) → free_until g s (at s.pieces k) r ≡ p → p ≢ Blocked
-        → (holder s r ≡ h.Free) × (fixed_active (at s.pieces k).start (fragments_of g r) ≡ false) × (first_start (at s.pieces k).start (at s.pieces k).end (fragments_of g r) ≡ p)
+        → (holder s r ≡ None) × (fixed_active (at s.pieces k).start (fragments_of g r) ≡ false) × (first_start (at s.pieces k).start (at s.pieces k).end (fragments_of g r) ≡ p)
     unfolding free_until
     open_until r p e n = by (holder s r) refl (fixed_active (at s.pieces k).start (fragments_of g r)) refl e
       where
-        by : (x : Holder) → holder s r ≡ x → (y : Bool) → fixed_active (at s.pieces k).start (fragments_of g r) ≡ y
+        by : (x : Option ℕ) → holder s r ≡ x → (y : Bool) → fixed_active (at s.pieces k).start (fragments_of g r) ≡ y
             → choose (is_held x || y) Blocked (first_start (at s.pieces k).start (at s.pieces k).end (fragments_of g r)) ≡ p
-            → (holder s r ≡ h.Free) × (fixed_active (at s.pieces k).start (fragments_of g r) ≡ false) × (first_start (at s.pieces k).start (at s.pieces k).end (fragments_of g r) ≡ p)
-        by (h.Held j) hx y hy v = absurd (n (sym v))
-        by h.Free hx true hy v = absurd (n (sym v))
-        by h.Free hx false hy v = (hx, hy, v)
+            → (holder s r ≡ None) × (fixed_active (at s.pieces k).start (fragments_of g r) ≡ false) × (first_start (at s.pieces k).start (at s.pieces k).end (fragments_of g r) ≡ p)
+        by (Some j) hx y hy v = absurd (n (sym v))
+        by None hx true hy v = absurd (n (sym v))
+        by None hx false hy v = (hx, hy, v)
 
-    module _ (r : ℕ) (us : Usable T (at s.pieces k).interval r) (fr : holder s r ≡ h.Free) (off : fixed_active (at s.pieces k).start (fragments_of g r) ≡ false) where
+    module _ (r : ℕ) (us : Usable T (at s.pieces k).interval r) (fr : holder s r ≡ None) (off : fixed_active (at s.pieces k).start (fragments_of g r) ≡ false) where
       take_keeps : (p : Pos) → first_start (at s.pieces k).start (at s.pieces k).end (fragments_of g r) ≡ p → p ≢ Blocked → Good (Placed S k) (try_at g s k r p)
       unfolding try_at take_until
       take_keeps Blocked v w = absurd (w refl)
@@ -533,9 +530,9 @@ module _ (g : Given) (ok : Accepted g.tables) (small : g.capacity ≤ 16384) whe
           (λ x. let u = until r us off a v in absurd (omega (arith, u.1, ltb-true (at s.pieces k).end a x)))
           (λ x. part (partial_split g (piece s k) a) refl)
         where
-          part : (z : Spot) → partial_split g (piece s k) a ≡ z → Good (Placed S k) (take_until g s k r z)
-          part Nothing q = blocked_keeps
-          part (Point x) q =
+          part : (z : Option ℕ) → partial_split g (piece s k) a ≡ z → Good (Placed S k) (take_until g s k r z)
+          part None q = blocked_keeps
+          part (Some x) q =
               let u = until r us off a v in
               let o = part_spec (at s.pieces k) a x sh q in
               good_on (CutOff S k x s) (Placed S k) (split_and_queue g s k x) (λ t. goes (take_register t k r))
@@ -547,9 +544,9 @@ module _ (g : Given) (ok : Accepted g.tables) (small : g.capacity ≤ 16384) whe
       take_ok Never v = tt
       take_ok (At a) v = λ x. part (partial_split g (piece s k) a) refl
         where
-          part : (z : Spot) → partial_split g (piece s k) a ≡ z → TakeUntilOk g s k z
-          part Nothing q = blocked_ok
-          part (Point x) q = let o = part_spec (at s.pieces k) a x sh q in record { here = d.here; above = o.0; below = omega (arith, o.1, (until r us off a v).1) }
+          part : (z : Option ℕ) → partial_split g (piece s k) a ≡ z → TakeUntilOk g s k z
+          part None q = blocked_ok
+          part (Some x) q = let o = part_spec (at s.pieces k) a x sh q in record { here = d.here; above = o.0; below = omega (arith, o.1, (until r us off a v).1) }
 
     -- steps 2 to 4
     pub allocate_keeps : Good (Placed S k) (allocate g s k)

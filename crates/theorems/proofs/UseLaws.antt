@@ -1,5 +1,6 @@
 -- What next use and last use find in a list of points, and which points a run of mentions has.
 -- Assumes nothing.
+use Rattle.std.specs.Prelude.{Option, None, Some}
 use Prim.Native.Nat.{ℕ, ◌≤◌, ◌<◌}
 use mathlib.Core.Path.{◌≡◌, refl}
 use mathlib.Core.Logic.{⊎_elim}
@@ -11,8 +12,6 @@ use borrow.Author.Tests.{leb-true, leb-false, ltb-true, ltb-false, eqb-false}
 use lib.Dec.{leb, ltb, eqb}
 use Rattle.words.specs.Choose.{choose}
 use Rattle.words.specs.Packed.{mention_in}
-use Rattle.words.specs.declared.Spot.{Spot}
-use Rattle.words.specs.declared.Spot.TheVariants.{Nothing, Point}
 use Rattle.rules.specs.Uses.{lower, greater, points_in, mention_points, is_point, next_use, last_use}
 use Rattle.rules.specs.Split.{any_below}
 use Rattle.rules.proofs.AcceptedLaws.{or_either}
@@ -32,13 +31,13 @@ module _ (p : ℕ) (xs : List ℕ) where
     pub has : Memᴰ y xs
     pub greatest : (x : ℕ) → Memᴰ x xs → x ≤ p → x ≤ y
 
-  abbrev pub NextIs : Spot → Type 0
-  NextIs Nothing = (x : ℕ) → Memᴰ x xs → x < p
-  NextIs (Point y) = Least y
+  abbrev pub NextIs : Option ℕ → Type 0
+  NextIs None = (x : ℕ) → Memᴰ x xs → x < p
+  NextIs (Some y) = Least y
 
-  abbrev pub LastIs : Spot → Type 0
-  LastIs Nothing = (x : ℕ) → Memᴰ x xs → p < x
-  LastIs (Point y) = Greatest y
+  abbrev pub LastIs : Option ℕ → Type 0
+  LastIs None = (x : ℕ) → Memᴰ x xs → p < x
+  LastIs (Some y) = Greatest y
 
 -- next use: the least point at or after p
 pub next_is : (p : ℕ) (xs : List ℕ) → NextIs p xs (next_use p xs)
@@ -46,13 +45,13 @@ unfolding next_use
 next_is p [] = λ x m. absurd (Memᴰ.not-nil m)
 next_is p (x ∷ xs) = go (leb p x) refl (next_use p xs) (next_is p xs)
   where
-    skip : x < p → (s : Spot) → NextIs p xs s → NextIs p (x ∷ xs) s
-    skip l Nothing n = by
+    skip : x < p → (s : Option ℕ) → NextIs p xs s → NextIs p (x ∷ xs) s
+    skip l None n = by
       where
         by : (z : ℕ) → Memᴰ z (x ∷ xs) → z < p
         by z (Memᴰ.head e) = omega arith
         by z (Memᴰ.tail m) = n z m
-    skip l (Point y) n = record { from = n.from; has = Memᴰ.tail n.has; least = by }
+    skip l (Some y) n = record { from = n.from; has = Memᴰ.tail n.has; least = by }
       where
         by : (z : ℕ) → Memᴰ z (x ∷ xs) → p ≤ z → y ≤ z
         by z (Memᴰ.head e) u = absurd (omega arith)
@@ -72,15 +71,15 @@ next_is p (x ∷ xs) = go (leb p x) refl (next_use p xs) (next_is p xs)
         by z (Memᴰ.head e) u = omega arith
         by z (Memᴰ.tail m) u = n.least z m u
 
-    both : p ≤ x → (s : Spot) → NextIs p xs s → NextIs p (x ∷ xs) (lower x s)
-    both l Nothing n = here l (λ z m u. absurd (omega (arith, n z m)))
-    both l (Point y) n = which (leb x y) refl
+    both : p ≤ x → (s : Option ℕ) → NextIs p xs s → NextIs p (x ∷ xs) (lower x s)
+    both l None n = here l (λ z m u. absurd (omega (arith, n z m)))
+    both l (Some y) n = which (leb x y) refl
       where
-        which : (b : Bool) → leb x y ≡ b → NextIs p (x ∷ xs) (choose b (Point x) (Point y))
+        which : (b : Bool) → leb x y ≡ b → NextIs p (x ∷ xs) (choose b (Some x) (Some y))
         which true e = here l (λ z m u. omega (arith, leb-true x y e, n.least z m u))
         which false e = there y (leb-false x y e) n
 
-    go : (b : Bool) → leb p x ≡ b → (s : Spot) → NextIs p xs s → NextIs p (x ∷ xs) (choose b (lower x s) s)
+    go : (b : Bool) → leb p x ≡ b → (s : Option ℕ) → NextIs p xs s → NextIs p (x ∷ xs) (choose b (lower x s) s)
     go true e s n = both (leb-true p x e) s n
     go false e s n = skip (leb-false p x e) s n
 
@@ -90,13 +89,13 @@ unfolding last_use
 last_is p [] = λ x m. absurd (Memᴰ.not-nil m)
 last_is p (x ∷ xs) = go (leb x p) refl (last_use p xs) (last_is p xs)
   where
-    skip : p < x → (s : Spot) → LastIs p xs s → LastIs p (x ∷ xs) s
-    skip l Nothing n = by
+    skip : p < x → (s : Option ℕ) → LastIs p xs s → LastIs p (x ∷ xs) s
+    skip l None n = by
       where
         by : (z : ℕ) → Memᴰ z (x ∷ xs) → p < z
         by z (Memᴰ.head e) = omega arith
         by z (Memᴰ.tail m) = n z m
-    skip l (Point y) n = record { upto = n.upto; has = Memᴰ.tail n.has; greatest = by }
+    skip l (Some y) n = record { upto = n.upto; has = Memᴰ.tail n.has; greatest = by }
       where
         by : (z : ℕ) → Memᴰ z (x ∷ xs) → z ≤ p → z ≤ y
         by z (Memᴰ.head e) u = absurd (omega arith)
@@ -116,15 +115,15 @@ last_is p (x ∷ xs) = go (leb x p) refl (last_use p xs) (last_is p xs)
         by z (Memᴰ.head e) u = omega arith
         by z (Memᴰ.tail m) u = n.greatest z m u
 
-    both : x ≤ p → (s : Spot) → LastIs p xs s → LastIs p (x ∷ xs) (greater x s)
-    both l Nothing n = here l (λ z m u. absurd (omega (arith, n z m)))
-    both l (Point y) n = which (leb y x) refl
+    both : x ≤ p → (s : Option ℕ) → LastIs p xs s → LastIs p (x ∷ xs) (greater x s)
+    both l None n = here l (λ z m u. absurd (omega (arith, n z m)))
+    both l (Some y) n = which (leb y x) refl
       where
-        which : (b : Bool) → leb y x ≡ b → LastIs p (x ∷ xs) (choose b (Point x) (Point y))
+        which : (b : Bool) → leb y x ≡ b → LastIs p (x ∷ xs) (choose b (Some x) (Some y))
         which true e = here l (λ z m u. omega (arith, leb-true y x e, n.greatest z m u))
         which false e = there y (leb-false y x e) n
 
-    go : (b : Bool) → leb x p ≡ b → (s : Spot) → LastIs p xs s → LastIs p (x ∷ xs) (choose b (greater x s) s)
+    go : (b : Bool) → leb x p ≡ b → (s : Option ℕ) → LastIs p xs s → LastIs p (x ∷ xs) (choose b (greater x s) s)
     go true e s n = both (leb-true x p e) s n
     go false e s n = skip (leb-false x p e) s n
 

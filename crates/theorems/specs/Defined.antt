@@ -1,8 +1,7 @@
 -- That nothing is ill-defined, as one record of facts that holds of every state at the head of the loop: for the contracts of code.
-use Rattle.std.specs.Prelude.{ℕ, ◌+◌, ◌*◌, ◌/◌, ◌≤◌, ◌<◌, ◌≡◌, length, get_or}
+use Rattle.std.specs.Prelude.{ℕ, ◌+◌, ◌*◌, ◌/◌, ◌≤◌, ◌<◌, ◌≡◌, length, get_or, None, Some}
 use mathlib.Core.List.{Memᴰ}
 use Rattle.words.specs.Packed.{size_of, interval_count}
-use Rattle.rules.specs.declared.Home.TheVariants.{Unspilled, Spilled}
 use Rattle.rules.specs.declared.Piece.{Piece}
 use Rattle.rules.specs.declared.Place.TheVariants.{Register, Slot}
 use Rattle.rules.specs.Accepted.{interval}
@@ -29,5 +28,5 @@ pub record Defined (g : Given) (l : ℕ) (s : State) : Type 0 where
   pub queued : (x : ℕ) → Memᴰ x s.queue → Queued s.pieces x  -- what is popped is a record without a place, and its key has its start
   pub ahead : (x : ℕ) → Memᴰ x s.queue → l ≤ x / 16384  -- and starts at or after the last start popped
   pub homes : length s.homes ≡ interval_count g.tables.intervals
-  pub home : (v t : ℕ) → get_or s.homes v Unspilled ≡ Spilled t → t + size_of (interval g.tables v) ≤ s.total
+  pub home : (v t : ℕ) → get_or s.homes v None ≡ Some t → t + size_of (interval g.tables v) ≤ s.total
   pub total : s.total ≤ 32768

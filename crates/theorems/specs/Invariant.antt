@@ -1,13 +1,11 @@
 -- What holds of every state of a run on accepted tables, each fact a named field; and what a split and a split-and-spill need and give. Facts for proofs: document 01 says nothing of them.
-use Rattle.std.specs.Prelude.{ℕ, suc, ◌+◌, ◌*◌, ◌%◌, ◌≤◌, ◌<◌, ◌≡◌, ◌≢◌, ◌⊎◌, true, length, get_or}
+use Rattle.std.specs.Prelude.{ℕ, suc, ◌+◌, ◌*◌, ◌%◌, ◌≤◌, ◌<◌, ◌≡◌, ◌≢◌, ◌⊎◌, true, length, get_or, Option, None, Some}
 use mathlib.Core.List.{List, [], ◌∷◌, Memᴰ}
 use Rattle.words.specs.Choose.{choose}
 use Rattle.words.specs.Points.{use_point, def_point}
 use Rattle.words.specs.Packed.{size_of, class_at, register_at, interval_count}
 use Rattle.words.specs.declared.Class.{Class}
 use Rattle.words.specs.declared.Range.{Range}
-use Rattle.rules.specs.declared.Home.{Home}
-use Rattle.rules.specs.declared.Home.TheVariants.{Unspilled, Spilled}
 use Rattle.rules.specs.declared.Piece.{Piece}
 use Rattle.rules.specs.declared.Place.{Place}
 use Rattle.rules.specs.declared.Place.TheVariants.{Nowhere, Register, Slot}
@@ -49,10 +47,10 @@ abbrev pub In : ℕ → Piece → Type 0
 In x q = (q.start ≤ x) × (x ≤ q.end)
 
 -- how many virtual registers have a slot
-unfoldable pub spilled_homes : List Home → ℕ
+unfoldable pub spilled_homes : List (Option ℕ) → ℕ
 spilled_homes [] = 0
-spilled_homes (Unspilled ∷ hs) = spilled_homes hs
-spilled_homes (Spilled t ∷ hs) = suc (spilled_homes hs)
+spilled_homes (None ∷ hs) = spilled_homes hs
+spilled_homes (Some t ∷ hs) = suc (spilled_homes hs)
 
 -- A2: the records of an interval are disjoint, and cover it
 abbrev pub Apart : ℕ → Piece → ℕ → Piece → Type 0
@@ -124,10 +122,10 @@ module _ (T : Tables) where
     pub safe : SafeOf v m p  -- E1
 
   -- what holds of record k by its place: B1; B2, B3, C1, C2, E1; D1, D2
-  abbrev pub Held : ℕ → List ℕ → List ℕ → List Home → ℕ → Piece → Place → Type 0
+  abbrev pub Held : ℕ → List ℕ → List ℕ → List (Option ℕ) → ℕ → Piece → Place → Type 0
   Held l queue active homes k q Nowhere = (l ≤ q.start) × Memᴰ (q.start * 16384 + k) queue
   Held l queue active homes k q (Register r) = InRegOf l active k q.interval q.start q.end q.mentions q.safepoints r
-  Held l queue active homes k q (Slot t) = (q.mentions.count ≡ 0) × (get_or homes q.interval Unspilled ≡ Spilled t)
+  Held l queue active homes k q (Slot t) = (q.mentions.count ≡ 0) × (get_or homes q.interval None ≡ Some t)
 
   pub record Parts (ps : List Piece) : Type 0 where
     pub apart : (j : ℕ) → j < length ps → (k : ℕ) → k < length ps → Apart j (at ps j) k (at ps k)
@@ -142,12 +140,12 @@ module _ (T : Tables) where
     pub parts : Parts ps
 
   -- D3: the slots
-  pub record Slots (homes : List Home) (total : ℕ) : Type 0 where
+  pub record Slots (homes : List (Option ℕ)) (total : ℕ) : Type 0 where
     pub long : length homes ≡ interval_count T.intervals
-    pub multiple : (v t : ℕ) → get_or homes v Unspilled ≡ Spilled t → t % size_of (interval T v) ≡ 0
-    pub under : (v t : ℕ) → get_or homes v Unspilled ≡ Spilled t → t + size_of (interval T v) ≤ total
-    pub apart : (u v x y : ℕ) → u ≢ v → get_or homes u Unspilled ≡ Spilled x → get_or homes v Unspilled ≡ Spilled y → (x + size_of (interval T u) ≤ y) ⊎ (y + size_of (interval T v) ≤ x)
-    pub top : (total ≡ 0) ⊎ ((v : ℕ) × (t : ℕ) × (get_or homes v Unspilled ≡ Spilled t) × (total ≡ t + size_of (interval T v)))
+    pub multiple : (v t : ℕ) → get_or homes v None ≡ Some t → t % size_of (interval T v) ≡ 0
+    pub under : (v t : ℕ) → get_or homes v None ≡ Some t → t + size_of (interval T v) ≤ total
+    pub apart : (u v x y : ℕ) → u ≢ v → get_or homes u None ≡ Some x → get_or homes v None ≡ Some y → (x + size_of (interval T u) ≤ y) ⊎ (y + size_of (interval T v) ≤ x)
+    pub top : (total ≡ 0) ⊎ ((v : ℕ) × (t : ℕ) × (get_or homes v None ≡ Some t) × (total ≡ t + size_of (interval T v)))
     pub few : total ≤ 8 * spilled_homes homes
 
 -- the invariant, of every record but those of X: l is the last start popped
@@ -159,7 +157,7 @@ pub record Inv (g : Given) (l : ℕ) (X : ℕ → Type 0) (s : State) : Type 0 w
   pub queued : (x : ℕ) → Memᴰ x s.queue → Queued s.pieces x
   pub waiting : (x : ℕ) → Memᴰ x s.queue → X (record_of_key x) → ⊥
   pub slots : Slots g.tables s.homes s.total
-  pub used : (v t : ℕ) → get_or s.homes v Unspilled ≡ Spilled t → IsSpilled s.pieces v t
+  pub used : (v t : ℕ) → get_or s.homes v None ≡ Some t → IsSpilled s.pieces v t
 
 module _ (g : Given) where
   -- what a split at p needs: it is proper, and tears no mention

@@ -1,12 +1,8 @@
 -- That each split and each spill of a step is well-defined, wherever the step comes to one: a predicate beside each part of the steps, which reads as that part does. For the contracts of code.
-use Rattle.std.specs.Prelude.{ℕ, ◌+◌, ◌≤◌, ◌<◌, min, ◌≡◌, ◌≢◌, true, false, ◌&&◌, List, [], ◌∷◌, ltb, length}
+use Rattle.std.specs.Prelude.{ℕ, ◌+◌, ◌≤◌, ◌<◌, min, ◌≡◌, ◌≢◌, true, false, ◌&&◌, List, [], ◌∷◌, ltb, length, Option, None, Some}
 use Rattle.words.specs.Points.{use_point, def_point}
-use Rattle.words.specs.declared.Spot.{Spot}
-use Rattle.words.specs.declared.Spot.TheVariants.{Nothing, Point}
 use Rattle.rules.specs.declared.Choice.{Choice}
 use Rattle.rules.specs.declared.Choice.TheVariants.{AllBlocked, Take}
-use Rattle.rules.specs.declared.Holder.{Holder}
-use Rattle.rules.specs.declared.Holder.TheVariants.{Free, Held}
 use Rattle.rules.specs.declared.Place.TheVariants.{Slot}
 use Rattle.rules.specs.declared.Pos.{Pos}
 use Rattle.rules.specs.declared.Pos.TheVariants.{Blocked, At, Never}
@@ -31,19 +27,19 @@ pub record SpillOk (s : State) (k : ℕ) : Type 0 where
 
 module _ (g : Given) where
   -- beside split_if_any
-  abbrev pub IfAnyOk : State → ℕ → Spot → Type 0
-  IfAnyOk s k Nothing = Unit
-  IfAnyOk s k (Point n) = SplitOk s k n
+  abbrev pub IfAnyOk : State → ℕ → Option ℕ → Type 0
+  IfAnyOk s k None = Unit
+  IfAnyOk s k (Some n) = SplitOk s k n
 
   -- beside spill and queue_tail
   abbrev pub SpillTailOk : State → ℕ → ℕ → Type 0
   SpillTailOk s k p = SpillOk s k × IfAnyOk (spill g s k) k (next_use p (points_of g (piece (spill g s k) k)))
 
   -- beside split_and_spill_by and split_and_spill
-  abbrev pub SpillByOk : State → ℕ → ℕ → Spot → Type 0
-  SpillByOk s k p (Point u) =
+  abbrev pub SpillByOk : State → ℕ → ℕ → Option ℕ → Type 0
+  SpillByOk s k p (Some u) =
       SplitOk s k (pick g.mode.strategy (min (u + 1) p) p) × Good (λ t. SpillTailOk t (new_record s) p) (split g s k (pick g.mode.strategy (min (u + 1) p) p))
-  SpillByOk s k p Nothing = SpillTailOk s k p
+  SpillByOk s k p None = SpillTailOk s k p
 
   abbrev pub SpillAtOk : State → ℕ → ℕ → Type 0
   SpillAtOk s k p = SpillByOk s k p (last_use p (points_of g (piece s k)))
@@ -53,9 +49,9 @@ module _ (g : Given) where
   UntilOk s k f = f ≢ (piece s k).start → SplitOk s k f × Good (λ t. SpillOk t k) (split_and_queue g s k f)
 
   -- beside cut_at and cut_before
-  abbrev pub CutAtOk : State → ℕ → ℕ → Spot → Type 0
-  CutAtOk s k b (Point p) = SplitOk s k p
-  CutAtOk s k b Nothing = SpillAtOk s k b
+  abbrev pub CutAtOk : State → ℕ → ℕ → Option ℕ → Type 0
+  CutAtOk s k b (Some p) = SplitOk s k p
+  CutAtOk s k b None = SpillAtOk s k b
 
   abbrev pub CutOk : State → ℕ → Pos → Type 0
   CutOk s k Blocked = Unit
@@ -63,9 +59,9 @@ module _ (g : Given) where
   CutOk s k Never = Unit
 
   -- beside spill_holder and take_over
-  abbrev pub HolderOk : State → ℕ → Holder → Type 0
-  HolderOk s S Free = Unit
-  HolderOk s S (Held h) = SpillAtOk s h S
+  abbrev pub HolderOk : State → ℕ → Option ℕ → Type 0
+  HolderOk s S None = Unit
+  HolderOk s S (Some h) = SpillAtOk s h S
 
   abbrev pub TakeOverOk : State → ℕ → ℕ → Type 0
   TakeOverOk s k r =
@@ -77,17 +73,17 @@ module _ (g : Given) where
   WeighOk s k f AllBlocked = UntilOk s k f
   WeighOk s k f (Take r p) = (below (At f) p ≡ true → TakeOverOk s k r) × (below (At f) p ≡ false → UntilOk s k f)
 
-  abbrev pub BlockedByOk : State → ℕ → Spot → Type 0
-  BlockedByOk s k Nothing = SpillOk s k
-  BlockedByOk s k (Point f) = only_scratch (class_of g (piece s k)) ≡ false → WeighOk s k f (furthest_of (class_of g (piece s k)) (next_use_pos g s (piece s k)))
+  abbrev pub BlockedByOk : State → ℕ → Option ℕ → Type 0
+  BlockedByOk s k None = SpillOk s k
+  BlockedByOk s k (Some f) = only_scratch (class_of g (piece s k)) ≡ false → WeighOk s k f (furthest_of (class_of g (piece s k)) (next_use_pos g s (piece s k)))
 
   abbrev pub BlockedOk : State → ℕ → Type 0
   BlockedOk s k = BlockedByOk s k (next_use (piece s k).start (points_of g (piece s k)))
 
   -- beside take_until, try_at, try_take and allocate
-  abbrev pub TakeUntilOk : State → ℕ → Spot → Type 0
-  TakeUntilOk s k (Point p) = SplitOk s k p
-  TakeUntilOk s k Nothing = BlockedOk s k
+  abbrev pub TakeUntilOk : State → ℕ → Option ℕ → Type 0
+  TakeUntilOk s k (Some p) = SplitOk s k p
+  TakeUntilOk s k None = BlockedOk s k
 
   abbrev pub TryAtOk : State → ℕ → Pos → Type 0
   TryAtOk s k Blocked = BlockedOk s k
@@ -102,9 +98,9 @@ module _ (g : Given) where
   AllocateOk s k = TryTakeOk s k (furthest_of (class_of g (piece s k)) (free_until g s (piece s k)))
 
   -- beside keep_or_spill, first_safepoint and handle_safepoints
-  abbrev pub KeepOk : State → ℕ → ℕ → Spot → Type 0
-  KeepOk s k x (Point u) = u ≢ def_point x → SpillAtOk s k (use_point x)
-  KeepOk s k x Nothing = IfAnyOk s k (next_use (def_point x) (points_of g (piece s k))) × Good (λ t. SpillOk t k) (split_if_any g s k (next_use (def_point x) (points_of g (piece s k))))
+  abbrev pub KeepOk : State → ℕ → ℕ → Option ℕ → Type 0
+  KeepOk s k x (Some u) = u ≢ def_point x → SpillAtOk s k (use_point x)
+  KeepOk s k x None = IfAnyOk s k (next_use (def_point x) (points_of g (piece s k))) × Good (λ t. SpillOk t k) (split_if_any g s k (next_use (def_point x) (points_of g (piece s k))))
 
   abbrev pub FirstOk : State → ℕ → List ℕ → Type 0
   FirstOk s k [] = Unit

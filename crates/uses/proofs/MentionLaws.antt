@@ -1,5 +1,6 @@
 -- One mention word: its points, and the first and last of them.
 -- Assumes nothing.
+use Rattle.std.specs.Prelude.{Option, None, Some}
 use Prim.Native.Nat.{ℕ, ◌≤◌, ◌<◌}
 use mathlib.Core.Path.{◌≡◌, refl, sym, ap, ◌∙◌}
 use mathlib.Core.Bool.{Bool, true, false, ◌||◌}
@@ -9,8 +10,6 @@ use lib.Dec.{ltb}
 use borrow.Author.Tests.{le-leb, lt-leb, ltb-true, ltb-false}
 use Rattle.words.specs.Choose.{choose}
 use Rattle.words.specs.declared.Mention.{Mention}
-use Rattle.words.specs.declared.Spot.{Spot}
-use Rattle.words.specs.declared.Spot.TheVariants.{Nothing, Point}
 use Rattle.words.specs.Points.{use_point, def_point}
 use Rattle.words.specs.Packed.{mention_in}
 use Rattle.words.proofs.Field.{bits_lt}
@@ -37,29 +36,29 @@ numbered w m e = rw e (record { is = refl; below = bits_lt 17 15 w })
 
 -- one point: late, there, or not there
 module _ (p x : ℕ) where
-  pub next_late : (b : Bool) → x < p → Nothing ≡ next_use p (dot b x)
+  pub next_late : (b : Bool) → x < p → None ≡ next_use p (dot b x)
   unfolding next_use
   next_late true h = simp (lt-leb p x h)
   next_late false h = refl
 
-  pub next_there : (b : Bool) → p ≤ x → b ≡ true → Point x ≡ next_use p (dot b x)
+  pub next_there : (b : Bool) → p ≤ x → b ≡ true → Some x ≡ next_use p (dot b x)
   unfolding next_use
   next_there b h e = simp (e, le-leb p x h)
 
-  pub next_gone : (b : Bool) → b ≡ false → Nothing ≡ next_use p (dot b x)
+  pub next_gone : (b : Bool) → b ≡ false → None ≡ next_use p (dot b x)
   unfolding next_use
   next_gone b e = simp e
 
-  pub last_early : (b : Bool) → p < x → Nothing ≡ last_use p (dot b x)
+  pub last_early : (b : Bool) → p < x → None ≡ last_use p (dot b x)
   unfolding last_use
   last_early true h = simp (lt-leb x p h)
   last_early false h = refl
 
-  pub last_there : (b : Bool) → x ≤ p → b ≡ true → Point x ≡ last_use p (dot b x)
+  pub last_there : (b : Bool) → x ≤ p → b ≡ true → Some x ≡ last_use p (dot b x)
   unfolding last_use
   last_there b h e = simp (e, le-leb x p h)
 
-  pub last_gone : (b : Bool) → b ≡ false → Nothing ≡ last_use p (dot b x)
+  pub last_gone : (b : Bool) → b ≡ false → None ≡ last_use p (dot b x)
   unfolding last_use
   last_gone b e = simp e
 
@@ -84,17 +83,17 @@ module _ (w i p x y : ℕ) (u d : Bool) (n : Numbered w i) where
   last_both : x ≡ use_point i → y ≡ def_point i → u ≡ at_use (mention_in w) → d ≡ at_def (mention_in w) → last_use p (points_in (mention_in w)) ≡ or_else (last_use p (dot d y)) (last_use p (dot u x))
   last_both a b e f = ap (last_use p) (points_are a b e f) ∙ last_append y p (dot u x) (dot d y) (dot_below u x y (omega arith)) (dot_from d y y (omega arith))
 
-pub next_use_point : (w i p x z : ℕ) (u : Bool) (s : Spot) → Numbered w i → x ≡ use_point i → u ≡ at_use (mention_in w) → s ≡ next_use p (dot u x) → s ≡ Point z → Point z ≡ next_use p (points_in (mention_in w))
+pub next_use_point : (w i p x z : ℕ) (u : Bool) (s : Option ℕ) → Numbered w i → x ≡ use_point i → u ≡ at_use (mention_in w) → s ≡ next_use p (dot u x) → s ≡ Some z → Some z ≡ next_use p (points_in (mention_in w))
 next_use_point w i p x z u s n a e f g = sym (next_both w i p x (def_point i) u (at_def (mention_in w)) n a refl e refl ∙ rw (sym f ∙ g))
 
-pub next_def_point : (w i p x y : ℕ) (u d : Bool) (s t : Spot) → Numbered w i → x ≡ use_point i → u ≡ at_use (mention_in w) → s ≡ next_use p (dot u x) → s ≡ Nothing
+pub next_def_point : (w i p x y : ℕ) (u d : Bool) (s t : Option ℕ) → Numbered w i → x ≡ use_point i → u ≡ at_use (mention_in w) → s ≡ next_use p (dot u x) → s ≡ None
     → y ≡ def_point i → d ≡ at_def (mention_in w) → t ≡ next_use p (dot d y) → t ≡ next_use p (points_in (mention_in w))
 next_def_point w i p x y u d s t n a e f g b k l = l ∙ sym (next_both w i p x y u d n a b e k ∙ rw (sym f ∙ g))
 
-pub last_def_point : (w i p y z : ℕ) (d : Bool) (s : Spot) → Numbered w i → y ≡ def_point i → d ≡ at_def (mention_in w) → s ≡ last_use p (dot d y) → s ≡ Point z → Point z ≡ last_use p (points_in (mention_in w))
+pub last_def_point : (w i p y z : ℕ) (d : Bool) (s : Option ℕ) → Numbered w i → y ≡ def_point i → d ≡ at_def (mention_in w) → s ≡ last_use p (dot d y) → s ≡ Some z → Some z ≡ last_use p (points_in (mention_in w))
 last_def_point w i p y z d s n b k f g = sym (last_both w i p (use_point i) y (at_use (mention_in w)) d n refl b refl k ∙ rw (sym f ∙ g))
 
-pub last_use_point : (w i p x y : ℕ) (u d : Bool) (s t : Spot) → Numbered w i → y ≡ def_point i → d ≡ at_def (mention_in w) → s ≡ last_use p (dot d y) → s ≡ Nothing
+pub last_use_point : (w i p x y : ℕ) (u d : Bool) (s t : Option ℕ) → Numbered w i → y ≡ def_point i → d ≡ at_def (mention_in w) → s ≡ last_use p (dot d y) → s ≡ None
     → x ≡ use_point i → u ≡ at_use (mention_in w) → t ≡ last_use p (dot u x) → t ≡ last_use p (points_in (mention_in w))
 last_use_point w i p x y u d s t n b k f g a e l = l ∙ sym (last_both w i p x y u d n a b e k ∙ rw (sym f ∙ g))
 

@@ -1,5 +1,6 @@
 -- Where points ascend, the next use is the first at or after p, and the last use the last at or before: the laws of two runs, one below the other.
 -- Assumes nothing.
+use Rattle.std.specs.Prelude.{Option, None, Some}
 use Prim.Native.Nat.{ℕ, ◌≤◌, ◌<◌}
 use mathlib.Core.Path.{◌≡◌, refl, sym, ◌∙◌}
 use mathlib.Core.Bool.{Bool, true, false, ◌||◌}
@@ -10,8 +11,6 @@ use borrow.Author.Tests.{le-leb, lt-leb, le-ltb, leb-true, leb-false, ltb-false,
 use lib.Arith.{lt_of_le-ne}
 use Rattle.words.specs.Choose.{choose}
 use Rattle.words.specs.declared.Mention.{Mention}
-use Rattle.words.specs.declared.Spot.{Spot}
-use Rattle.words.specs.declared.Spot.TheVariants.{Nothing, Point}
 use Rattle.words.specs.Points.{use_point, def_point}
 use Rattle.words.specs.Packed.{mention_in}
 use Rattle.rules.specs.Uses.{at_use, at_def, points_in, mention_points, is_point, lower, greater, next_use, last_use}
@@ -22,14 +21,14 @@ abbrev pub Each : (ℕ → Type 0) → List ℕ → Type 0
 Each P [] = Unit
 Each P (x ∷ xs) = P x × Each P xs
 
-abbrev pub Has : (ℕ → Type 0) → Spot → Type 0
-Has P Nothing = Unit
-Has P (Point x) = P x
+abbrev pub Has : (ℕ → Type 0) → Option ℕ → Type 0
+Has P None = Unit
+Has P (Some x) = P x
 
 -- the first answer, or the second where there is none
-abbrev pub or_else : Spot → Spot → Spot
-or_else Nothing s = s
-or_else (Point x) s = Point x
+abbrev pub or_else : Option ℕ → Option ℕ → Option ℕ
+or_else None s = s
+or_else (Some x) s = Some x
 
 pub each_append : (P : ℕ → Type 0) (xs ys : List ℕ) → Each P xs → Each P ys → Each P (xs ++ ys)
 each_append P [] ys a b = b
@@ -46,17 +45,17 @@ each_mem P x (y ∷ ys) a (Memᴰ.tail m) = each_mem P x ys a.1 m
 
 -- a use that is found is one of the points
 module _ (P : ℕ → Type 0) where
-  choose_has : (b : Bool) (s t : Spot) → Has P s → Has P t → Has P (choose b s t)
+  choose_has : (b : Bool) (s t : Option ℕ) → Has P s → Has P t → Has P (choose b s t)
   choose_has true s t h k = h
   choose_has false s t h k = k
 
-  lower_has : (x : ℕ) (s : Spot) → P x → Has P s → Has P (lower x s)
-  lower_has x Nothing h k = h
-  lower_has x (Point y) h k = choose_has (leb x y) (Point x) (Point y) h k
+  lower_has : (x : ℕ) (s : Option ℕ) → P x → Has P s → Has P (lower x s)
+  lower_has x None h k = h
+  lower_has x (Some y) h k = choose_has (leb x y) (Some x) (Some y) h k
 
-  greater_has : (x : ℕ) (s : Spot) → P x → Has P s → Has P (greater x s)
-  greater_has x Nothing h k = h
-  greater_has x (Point y) h k = choose_has (leb y x) (Point x) (Point y) h k
+  greater_has : (x : ℕ) (s : Option ℕ) → P x → Has P s → Has P (greater x s)
+  greater_has x None h k = h
+  greater_has x (Some y) h k = choose_has (leb y x) (Some x) (Some y) h k
 
   pub next_has : (p : ℕ) (xs : List ℕ) → Each P xs → Has P (next_use p xs)
   unfolding next_use
@@ -69,15 +68,15 @@ module _ (P : ℕ → Type 0) where
   last_has p (x ∷ xs) a = choose_has (leb x p) (greater x (last_use p xs)) (last_use p xs) (greater_has x (last_use p xs) a.0 (last_has p xs a.1)) (last_has p xs a.1)
 
 -- a point below all others is the lower, and never the greater
-lower_below : (n x : ℕ) (s : Spot) → x < n → Has (λ y. n ≤ y) s → lower x s ≡ Point x
-lower_below n x Nothing h k = refl
-lower_below n x (Point y) h k = simp (le-leb x y (omega arith))
+lower_below : (n x : ℕ) (s : Option ℕ) → x < n → Has (λ y. n ≤ y) s → lower x s ≡ Some x
+lower_below n x None h k = refl
+lower_below n x (Some y) h k = simp (le-leb x y (omega arith))
 
-greater_above : (n x : ℕ) (s t : Spot) → x < n → Has (λ y. n ≤ y) s → greater x (or_else s t) ≡ or_else s (greater x t)
-greater_above n x Nothing t h k = refl
-greater_above n x (Point y) t h k = simp (lt-leb y x (omega arith))
+greater_above : (n x : ℕ) (s t : Option ℕ) → x < n → Has (λ y. n ≤ y) s → greater x (or_else s t) ≡ or_else s (greater x t)
+greater_above n x None t h k = refl
+greater_above n x (Some y) t h k = simp (lt-leb y x (omega arith))
 
-or_choose : (b : Bool) (x y : ℕ) (s : Spot) → choose b (Point x) (Point y) ≡ or_else (choose b (Point x) (Point y)) s
+or_choose : (b : Bool) (x y : ℕ) (s : Option ℕ) → choose b (Some x) (Some y) ≡ or_else (choose b (Some x) (Some y)) s
 or_choose true x y s = refl
 or_choose false x y s = refl
 
@@ -87,19 +86,19 @@ unfolding next_use
 next_append n p [] ys u o = refl
 next_append n p (x ∷ xs) ys u o = go (leb p x) (next_use p xs) (next_append n p xs ys u.1 o)
   where
-    go : (b : Bool) (s : Spot) → next_use p (xs ++ ys) ≡ or_else s (next_use p ys) → choose b (lower x (next_use p (xs ++ ys))) (next_use p (xs ++ ys)) ≡ or_else (choose b (lower x s) s) (next_use p ys)
+    go : (b : Bool) (s : Option ℕ) → next_use p (xs ++ ys) ≡ or_else s (next_use p ys) → choose b (lower x (next_use p (xs ++ ys))) (next_use p (xs ++ ys)) ≡ or_else (choose b (lower x s) s) (next_use p ys)
     go false s e = e
-    go true Nothing e = rw e (lower_below n x (next_use p ys) u.0 (next_has (λ y. n ≤ y) p ys o))
-    go true (Point z) e = rw e (or_choose (leb x z) x z (next_use p ys))
+    go true None e = rw e (lower_below n x (next_use p ys) u.0 (next_has (λ y. n ≤ y) p ys o))
+    go true (Some z) e = rw e (or_choose (leb x z) x z (next_use p ys))
 
 -- and the last use is the second's if it has one
 pub last_append : (n p : ℕ) (xs ys : List ℕ) → Each (λ x. x < n) xs → Each (λ y. n ≤ y) ys → last_use p (xs ++ ys) ≡ or_else (last_use p ys) (last_use p xs)
 unfolding last_use
 last_append n p [] ys u o = or_nothing (last_use p ys)
   where
-    or_nothing : (s : Spot) → s ≡ or_else s Nothing
-    or_nothing Nothing = refl
-    or_nothing (Point x) = refl
+    or_nothing : (s : Option ℕ) → s ≡ or_else s None
+    or_nothing None = refl
+    or_nothing (Some x) = refl
 last_append n p (x ∷ xs) ys u o = go (leb x p) (last_append n p xs ys u.1 o)
   where
     go : (b : Bool) → last_use p (xs ++ ys) ≡ or_else (last_use p ys) (last_use p xs) → choose b (greater x (last_use p (xs ++ ys))) (last_use p (xs ++ ys)) ≡ or_else (last_use p ys) (choose b (greater x (last_use p xs)) (last_use p xs))
@@ -107,9 +106,9 @@ last_append n p (x ∷ xs) ys u o = go (leb x p) (last_append n p xs ys u.1 o)
     go true e = rw e (greater_above n x (last_use p ys) (last_use p xs) u.0 (last_has (λ y. n ≤ y) p ys o))
 
 -- p is a point exactly if it is the next use from p
-abbrev pub is_at : ℕ → Spot → Bool
-is_at p Nothing = false
-is_at p (Point x) = eqb x p
+abbrev pub is_at : ℕ → Option ℕ → Bool
+is_at p None = false
+is_at p (Some x) = eqb x p
 
 -- a next use from p is at or after p
 pub next_from : (p : ℕ) (xs : List ℕ) → Has (λ y. p ≤ y) (next_use p xs)
@@ -121,19 +120,19 @@ next_from p (x ∷ xs) = go (leb p x) refl (next_from p xs)
     go true e h = lower_has (λ y. p ≤ y) x (next_use p xs) (leb-true p x e) h
     go false e h = h
 
-point_here : (p x : ℕ) (s : Spot) → p ≡ x → Has (λ y. p ≤ y) s → true ≡ is_at p (lower x s)
-point_here p x Nothing e h = simp (eq-eqb x p (omega arith))
-point_here p x (Point y) e h = simp (le-leb x y (omega arith), eq-eqb x p (omega arith))
+point_here : (p x : ℕ) (s : Option ℕ) → p ≡ x → Has (λ y. p ≤ y) s → true ≡ is_at p (lower x s)
+point_here p x None e h = simp (eq-eqb x p (omega arith))
+point_here p x (Some y) e h = simp (le-leb x y (omega arith), eq-eqb x p (omega arith))
 
-point_past : (p x : ℕ) (b : Bool) (s : Spot) → p < x → b ≡ is_at p s → b ≡ is_at p (lower x s)
-point_past p x b Nothing l e = simp (ne_eqb x p (λ i. omega arith)) e
-point_past p x b (Point y) l e = go (leb x y) refl
+point_past : (p x : ℕ) (b : Bool) (s : Option ℕ) → p < x → b ≡ is_at p s → b ≡ is_at p (lower x s)
+point_past p x b None l e = simp (ne_eqb x p (λ i. omega arith)) e
+point_past p x b (Some y) l e = go (leb x y) refl
   where
-    go : (c : Bool) → leb x y ≡ c → b ≡ is_at p (choose c (Point x) (Point y))
+    go : (c : Bool) → leb x y ≡ c → b ≡ is_at p (choose c (Some x) (Some y))
     go false t = e
     go true t = let h : x ≤ y = leb-true x y t in simp (ne_eqb x p (λ i. omega arith)) (simp (ne_eqb y p (λ i. omega arith)) at e)
 
-point_step : (p x : ℕ) (b : Bool) (s : Spot) → Has (λ y. p ≤ y) s → b ≡ is_at p s → eqb p x || b ≡ is_at p (choose (leb p x) (lower x s) s)
+point_step : (p x : ℕ) (b : Bool) (s : Option ℕ) → Has (λ y. p ≤ y) s → b ≡ is_at p s → eqb p x || b ≡ is_at p (choose (leb p x) (lower x s) s)
 point_step p x b s h i = go (leb p x) (eqb p x) refl refl
   where
     go : (l e : Bool) → leb p x ≡ l → eqb p x ≡ e → e || b ≡ is_at p (choose l (lower x s) s)
@@ -147,10 +146,10 @@ unfolding is_point next_use
 point_next p [] = refl
 point_next p (x ∷ xs) = point_step p x (is_point p xs) (next_use p xs) (next_from p xs) (point_next p xs)
 
-pub point_none : (p : ℕ) (xs : List ℕ) (u : Spot) → u ≡ next_use p xs → u ≡ Nothing → false ≡ is_point p xs
+pub point_none : (p : ℕ) (xs : List ℕ) (u : Option ℕ) → u ≡ next_use p xs → u ≡ None → false ≡ is_point p xs
 point_none p xs u e f = sym (point_next p xs ∙ rw (sym e ∙ f))
 
-pub point_at : (p x : ℕ) (xs : List ℕ) (u : Spot) → u ≡ next_use p xs → u ≡ Point x → eqb x p ≡ is_point p xs
+pub point_at : (p x : ℕ) (xs : List ℕ) (u : Option ℕ) → u ≡ next_use p xs → u ≡ Some x → eqb x p ≡ is_point p xs
 point_at p x xs u e f = sym (point_next p xs ∙ rw (sym e ∙ f))
 
 -- no point is below p: all are at or after it

@@ -1,5 +1,6 @@
 -- The first safepoint of a run.
 -- Assumes nothing.
+use Rattle.std.specs.Prelude.{None, Some}
 use Prim.Native.Nat.{ℕ, suc, ◌-◌}
 use mathlib.Core.Path.{◌≡◌, refl}
 use mathlib.Core.List.{List, [], ◌∷◌, tail}
@@ -10,15 +11,14 @@ use mir.Val.{Fits}
 use mir.Syntax.{w16}
 use Rattle.words.specs.declared.Range.{Range}
 use Rattle.words.specs.Packed.{part}
-use Rattle.uses.specs.declared.Safepoint.TheVariants.{Missing, Instruction}
 use Rattle.uses.specs.Runs.{Ascending}
 use Rattle.uses.specs.Safepoints.{head_of}
 
 -- a run of nothing has no first, any other has its first entry
-pub first_missing : (r : Range) (l : List ℕ) → r.count ≡ 0 → Missing ≡ head_of (part r l)
+pub first_missing : (r : Range) (l : List ℕ) → r.count ≡ 0 → None ≡ head_of (part r l)
 first_missing r l e = rw e
 
-pub first_is : (r : Range) (l : List ℕ) → Ascending r l → (r.count ≡ 0 → ⊥) → Instruction (get_or l r.index 0) ≡ head_of (part r l)
+pub first_is : (r : Range) (l : List ℕ) → Ascending r l → (r.count ≡ 0 → ⊥) → Some (get_or l r.index 0) ≡ head_of (part r l)
 first_is r l up h =
     let e : r.count ≡ suc (r.count - 1) = omega arith in
     rw (drop-cons l r.index 0 (omega arith), e)
@@ -28,10 +28,10 @@ pub first_fits : (r : Range) (l : List ℕ) → Ascending r l → (r.count ≡ 0
 first_fits r l up h = omega (arith, up.below r.index (omega arith, omega arith))
 
 -- what a head says of its list
-pub head_missing : (l : List ℕ) → head_of l ≡ Missing → l ≡ []
+pub head_missing : (l : List ℕ) → head_of l ≡ None → l ≡ []
 head_missing [] e = refl
 head_missing (x ∷ l) e = cc
 
-pub head_is : (l : List ℕ) (x : ℕ) → head_of l ≡ Instruction x → l ≡ x ∷ tail l
+pub head_is : (l : List ℕ) (x : ℕ) → head_of l ≡ Some x → l ≡ x ∷ tail l
 head_is [] x e = cc
 head_is (y ∷ l) x e = let h : y ≡ x = cc in rw h

@@ -1,5 +1,6 @@
 -- What a walk over a run has found after n entries: each turn of the walks, and their ends.
 -- Assumes nothing.
+use Rattle.std.specs.Prelude.{Option, None, Some}
 use Prim.Native.Nat.{ℕ, zero, suc, ◌+◌, ◌-◌, ◌≤◌, ◌<◌}
 use mathlib.Core.Path.{◌≡◌, refl, sym, ap, ◌∙◌}
 use mathlib.Core.Bool.{Bool, true, false}
@@ -12,8 +13,6 @@ use lib.ListN.{length, get_or, take, drop, length-take, length-drop}
 use lib.Seq.{drop-cons, take-suc, get_or-take, get_or-drop}
 use borrow.Author.Tests.{ltb-false, le-ltb}
 use Rattle.words.specs.declared.Range.{Range}
-use Rattle.words.specs.declared.Spot.{Spot}
-use Rattle.words.specs.declared.Spot.TheVariants.{Nothing, Point}
 use Rattle.words.specs.Points.{use_point}
 use Rattle.words.specs.Packed.{mention_in, part}
 use Rattle.rules.specs.Uses.{points_in, mention_points, next_use, last_use}
@@ -113,7 +112,7 @@ module _ (r : Range) (l : List ℕ) (p : ℕ) where
   pub seeking_starts : Rising r l → Seeking r l p 0
   seeking_starts up = record { rising = up; upto = omega arith; is = rw (rest_all r l) }
 
-  pub seeking_more : (n : ℕ) (u : Spot) → Seeking r l p n → n < r.count → u ≡ next_use p (points_in (mention_at l (r.index + n))) → u ≡ Nothing → Seeking r l p (n + 1)
+  pub seeking_more : (n : ℕ) (u : Option ℕ) → Seeking r l p n → n < r.count → u ≡ next_use p (points_in (mention_at l (r.index + n))) → u ≡ None → Seeking r l p (n + 1)
   seeking_more n u s h e f =
       record {
         rising = s.rising;
@@ -121,21 +120,21 @@ module _ (r : Range) (l : List ℕ) (p : ℕ) where
         is = s.is ∙ next_more r l s.rising n h p ∙ rw (sym e ∙ f);
       }
 
-  pub seeking_found : (n x : ℕ) (u : Spot) → Seeking r l p n → n < r.count → u ≡ next_use p (points_in (mention_at l (r.index + n))) → u ≡ Point x → Point x ≡ next_use p (mention_points (part r l))
+  pub seeking_found : (n x : ℕ) (u : Option ℕ) → Seeking r l p n → n < r.count → u ≡ next_use p (points_in (mention_at l (r.index + n))) → u ≡ Some x → Some x ≡ next_use p (mention_points (part r l))
   seeking_found n x u s h e f = sym (s.is ∙ next_more r l s.rising n h p ∙ rw (sym e ∙ f))
 
-  pub seeking_ends : (n : ℕ) → Seeking r l p n → r.count ≤ n → Nothing ≡ next_use p (mention_points (part r l))
+  pub seeking_ends : (n : ℕ) → Seeking r l p n → r.count ≤ n → None ≡ next_use p (mention_points (part r l))
   unfolding mention_points next_use
   seeking_ends n s h = sym (s.is ∙ rw (rest_none r l n h))
 
-  seeks : (n : ℕ) → Rising r l → n ≤ r.count → ((k : ℕ) → k < n → next_use p (points_in (mention_at l (r.index + k))) ≡ Nothing) → Seeking r l p n
+  seeks : (n : ℕ) → Rising r l → n ≤ r.count → ((k : ℕ) → k < n → next_use p (points_in (mention_at l (r.index + k))) ≡ None) → Seeking r l p n
   seeks zero up h g = seeking_starts up
-  seeks (suc n) up h g = rw (add-one n) at (seeking_more n Nothing (seeks n up (omega arith) (λ k i. g k (omega arith))) (omega arith) (sym (g n (omega arith))) refl)
+  seeks (suc n) up h g = rw (add-one n) at (seeking_more n None (seeks n up (omega arith) (λ k i. g k (omega arith))) (omega arith) (sym (g n (omega arith))) refl)
 
   -- the next use is that of the first mention that has one
-  pub next_first : (n x : ℕ) → Rising r l → n < r.count → ((k : ℕ) → k < n → next_use p (points_in (mention_at l (r.index + k))) ≡ Nothing)
-      → next_use p (points_in (mention_at l (r.index + n))) ≡ Point x → next_use p (mention_points (part r l)) ≡ Point x
-  next_first n x up h g e = sym (seeking_found n x (Point x) (seeks n up (omega arith) g) h (sym e) refl)
+  pub next_first : (n x : ℕ) → Rising r l → n < r.count → ((k : ℕ) → k < n → next_use p (points_in (mention_at l (r.index + k))) ≡ None)
+      → next_use p (points_in (mention_at l (r.index + n))) ≡ Some x → next_use p (mention_points (part r l)) ≡ Some x
+  next_first n x up h g e = sym (seeking_found n x (Some x) (seeks n up (omega arith) g) h (sym e) refl)
 
 -- the walk for the last use at or before p, from the end, with n entries left
 pub record Trailing (r : Range) (l : List ℕ) (p n : ℕ) : Type 0 where
@@ -152,29 +151,29 @@ module _ (r : Range) (l : List ℕ) (p : ℕ) where
       let e : n ≡ n - 1 + 1 = omega arith in
       s.is ∙ ap (λ (k : ℕ). last_use p (mention_points (front r k l))) e ∙ last_more r l s.rising (n - 1) (omega arith) p
 
-  pub trailing_more : (n : ℕ) (u : Spot) → Trailing r l p n → 0 < n → u ≡ last_use p (points_in (mention_at l (r.index + (n - 1)))) → u ≡ Nothing → Trailing r l p (n - 1)
+  pub trailing_more : (n : ℕ) (u : Option ℕ) → Trailing r l p n → 0 < n → u ≡ last_use p (points_in (mention_at l (r.index + (n - 1)))) → u ≡ None → Trailing r l p (n - 1)
   trailing_more n u s h e f = record { rising = s.rising; upto = omega arith; is = last_step n s h ∙ rw (sym e ∙ f) }
 
-  pub trailing_found : (n x : ℕ) (u : Spot) → Trailing r l p n → 0 < n → u ≡ last_use p (points_in (mention_at l (r.index + (n - 1)))) → u ≡ Point x → Point x ≡ last_use p (mention_points (part r l))
+  pub trailing_found : (n x : ℕ) (u : Option ℕ) → Trailing r l p n → 0 < n → u ≡ last_use p (points_in (mention_at l (r.index + (n - 1)))) → u ≡ Some x → Some x ≡ last_use p (mention_points (part r l))
   trailing_found n x u s h e f = sym (last_step n s h ∙ rw (sym e ∙ f))
 
-  pub trailing_ends : (n : ℕ) → Trailing r l p n → n ≤ 0 → Nothing ≡ last_use p (mention_points (part r l))
+  pub trailing_ends : (n : ℕ) → Trailing r l p n → n ≤ 0 → None ≡ last_use p (mention_points (part r l))
   unfolding mention_points last_use
   trailing_ends n s h = let e : n ≡ 0 = omega arith in sym (s.is ∙ rw e)
 
-  trails : (d n : ℕ) → Rising r l → n + d ≡ r.count → ((k : ℕ) → n ≤ k → k < r.count → last_use p (points_in (mention_at l (r.index + k))) ≡ Nothing) → Trailing r l p n
+  trails : (d n : ℕ) → Rising r l → n + d ≡ r.count → ((k : ℕ) → n ≤ k → k < r.count → last_use p (points_in (mention_at l (r.index + k))) ≡ None) → Trailing r l p n
   trails zero n up h g = let e : n ≡ r.count = omega arith in rw e (trailing_starts up)
   trails (suc d) n up h g =
       let e : n + 1 - 1 ≡ n = omega arith in
-      rw e at (trailing_more (n + 1) Nothing (trails d (n + 1) up (omega arith) (λ k i j. g k (omega arith) j)) (omega arith) (rw e (sym (g n (omega arith) (omega arith)))) refl)
+      rw e at (trailing_more (n + 1) None (trails d (n + 1) up (omega arith) (λ k i j. g k (omega arith) j)) (omega arith) (rw e (sym (g n (omega arith) (omega arith)))) refl)
 
   -- the last use is that of the last mention that has one
-  pub last_last : (n x : ℕ) → Rising r l → n < r.count → ((k : ℕ) → n < k → k < r.count → last_use p (points_in (mention_at l (r.index + k))) ≡ Nothing)
-      → last_use p (points_in (mention_at l (r.index + n))) ≡ Point x → last_use p (mention_points (part r l)) ≡ Point x
+  pub last_last : (n x : ℕ) → Rising r l → n < r.count → ((k : ℕ) → n < k → k < r.count → last_use p (points_in (mention_at l (r.index + k))) ≡ None)
+      → last_use p (points_in (mention_at l (r.index + n))) ≡ Some x → last_use p (mention_points (part r l)) ≡ Some x
   last_last n x up h g e =
       let f : n + 1 - 1 ≡ n = omega arith in
       let s : Trailing r l p (n + 1) = trails (r.count - (n + 1)) (n + 1) up (omega arith) (λ k i j. g k (omega arith) j) in
-      sym (trailing_found (n + 1) x (Point x) s (omega arith) (rw f (sym e)) refl)
+      sym (trailing_found (n + 1) x (Some x) s (omega arith) (rw f (sym e)) refl)
 
 -- a test of which all entries after one that fails fail too
 abbrev pub Falls : (ℕ → Bool) → Range → List ℕ → Type 0

@@ -8,13 +8,6 @@ pub mod mentions;
 pub mod places;
 pub mod safepoints;
 
-// The first safepoint of a run, by its instruction, if there is one.
-#[derive(Clone, Copy)]
-pub enum Safepoint {
-    Missing,
-    Instruction(u16),
-}
-
 // The two pieces that a split makes of one.
 #[derive(Clone, Copy)]
 pub struct Halves {

@@ -5,7 +5,7 @@ ghost use Rattle.rules.specs.Uses.{at_use, at_def, points_in, mention_points, is
 ghost use Rattle.uses.specs.Runs.{Rising, Kept};
 ghost use Rattle.uses.specs.Mentions.{Numbered, dot, stays_below};
 
-use words::{Range, Spot, points, read};
+use words::{Range, points, read};
 
 // A use or mod has the Use point,
 fn at_use(w: u32) -> bool
@@ -37,57 +37,57 @@ fn instruction_in(w: u32) -> u16
 }
 
 // A point that is there, if at or after p.
-fn point_from(there: bool, x: u16, p: u16) -> Spot
+fn point_from(there: bool, x: u16, p: u16) -> Option<u16>
     ensures { result ≡ next_use p (dot there x) }
 {
     if x < p {
-        return Spot::Nothing;
+        return None;
     }
     if there {
-        return Spot::Point(x);
+        return Some(x);
     }
-    Spot::Nothing
+    None
 }
 
 // A point that is there, if at or before p.
-fn point_until(there: bool, x: u16, p: u16) -> Spot
+fn point_until(there: bool, x: u16, p: u16) -> Option<u16>
     ensures { result ≡ last_use p (dot there x) }
 {
     if p < x {
-        return Spot::Nothing;
+        return None;
     }
     if there {
-        return Spot::Point(x);
+        return Some(x);
     }
-    Spot::Nothing
+    None
 }
 
 // The first point of a mention at or after p: the Use point, else the Def point.
-fn next_in(w: u32, p: u16) -> Spot
+fn next_in(w: u32, p: u16) -> Option<u16>
     ensures { result ≡ next_use p (points_in (mention_in w)) }
 {
     let i = instruction_in(w);
     let use_at = points::use_point(i);
     let def_at = points::def_point(i);
     let first = point_from(at_use(w), use_at, p);
-    let Spot::Point(x) = first else {
+    let Some(x) = first else {
         return point_from(at_def(w), def_at, p);
     };
-    Spot::Point(x)
+    Some(x)
 }
 
 // The last point of a mention at or before p: the Def point, else the Use point.
-fn last_in(w: u32, p: u16) -> Spot
+fn last_in(w: u32, p: u16) -> Option<u16>
     ensures { result ≡ last_use p (points_in (mention_in w)) }
 {
     let i = instruction_in(w);
     let use_at = points::use_point(i);
     let def_at = points::def_point(i);
     let last = point_until(at_def(w), def_at, p);
-    let Spot::Point(x) = last else {
+    let Some(x) = last else {
         return point_until(at_use(w), use_at, p);
     };
-    Spot::Point(x)
+    Some(x)
 }
 
 // A mention stays at a split at p: a point of it is below p.
@@ -107,7 +107,7 @@ fn stays(w: u32, p: u16) -> bool
 }
 
 // The least mention point of a run at or after p.
-pub fn next_use(mentions: &[u32], range: Range, p: u16) -> Spot
+pub fn next_use(mentions: &[u32], range: Range, p: u16) -> Option<u16>
     requires { Rising range mentions.now }
     ensures { result ≡ next_use p (mention_points (part range mentions.now)) }
 {
@@ -116,16 +116,16 @@ pub fn next_use(mentions: &[u32], range: Range, p: u16) -> Spot
     let mut n = 0;
     while n < count {
         let u = next_in(mentions[from + n], p);
-        if let Spot::Point(x) = u {
-            return Spot::Point(x);
+        if let Some(x) = u {
+            return Some(x);
         }
         n += 1;
     }
-    Spot::Nothing
+    None
 }
 
 // The greatest mention point of a run at or before p, from its end.
-pub fn last_use(mentions: &[u32], range: Range, p: u16) -> Spot
+pub fn last_use(mentions: &[u32], range: Range, p: u16) -> Option<u16>
     requires { Rising range mentions.now }
     ensures { result ≡ last_use p (mention_points (part range mentions.now)) }
 {
@@ -135,11 +135,11 @@ pub fn last_use(mentions: &[u32], range: Range, p: u16) -> Spot
     while 0 < n {
         n -= 1;
         let u = last_in(mentions[from + n], p);
-        if let Spot::Point(x) = u {
-            return Spot::Point(x);
+        if let Some(x) = u {
+            return Some(x);
         }
     }
-    Spot::Nothing
+    None
 }
 
 // p is a mention point of a run: the next use from p is p.
@@ -147,7 +147,7 @@ pub fn is_mention_point(mentions: &[u32], range: Range, p: u16) -> bool
     requires { Rising range mentions.now }
     ensures { result ≡ is_point p (mention_points (part range mentions.now)) }
 {
-    let Spot::Point(x) = next_use(mentions, range, p) else {
+    let Some(x) = next_use(mentions, range, p) else {
         return false;
     };
     x == p

@@ -1,6 +1,5 @@
 // Where a split falls: the strategies' picks, and the partial split.
-ghost use Rattle.std.specs.Prelude.{◌≡◌};
-ghost use Rattle.words.specs.declared.Spot.TheVariants.{Point};
+ghost use Rattle.std.specs.Prelude.{◌≡◌, Some};
 ghost use Rattle.words.specs.Packed.{part};
 ghost use Rattle.rules.specs.Uses.{mention_points};
 ghost use Rattle.rules.specs.Split.{or_from, or_start, if_above, near_end, near_use, partial_place};
@@ -9,11 +8,11 @@ ghost use Rattle.uses.specs.Runs.{Rising};
 
 use crate::mentions;
 use rules::{Mode, Strategy};
-use words::{Range, Spot, points};
+use words::{Range, points};
 
 // A candidate outside from..to becomes from.
 fn or_from(from: u16, to: u16, p: u32) -> u16
-    ensures { result ≡ or_from from to (Point p) }
+    ensures { result ≡ or_from from to (Some p) }
 {
     if p < from as u32 {
         return from;
@@ -50,32 +49,32 @@ pub fn pick(strategy: Strategy, from: u16, to: u16) -> u16
 }
 
 // The last use, or the start.
-fn or_start(start: u16, u: Spot) -> u16
+fn or_start(start: u16, u: Option<u16>) -> u16
     ensures { result ≡ or_start start u }
 {
     match u {
-        Spot::Nothing => start,
-        Spot::Point(v) => v,
+        None => start,
+        Some(v) => v,
     }
 }
 
 // A place, if above v.
-fn if_above(v: u16, p: u16) -> Spot
-    ensures { result ≡ if_above v (Point p) }
+fn if_above(v: u16, p: u16) -> Option<u16>
+    ensures { result ≡ if_above v (Some p) }
 {
     if v < p {
-        return Spot::Point(p);
+        return Some(p);
     }
-    Spot::Nothing
+    None
 }
 
 // The Use two points before a Use a, or one before a Def a, if above v.
-fn near_end(v: u16, a: u16) -> Spot
+fn near_end(v: u16, a: u16) -> Option<u16>
     ensures { result ≡ near_end v a }
 {
     if points::is_use(a) {
         if a < 2 {
-            return Spot::Nothing;
+            return None;
         }
         return if_above(v, a - 2);
     }
@@ -83,18 +82,18 @@ fn near_end(v: u16, a: u16) -> Spot
 }
 
 // The next Use after v, if below a.
-fn near_use(v: u16, a: u16) -> Spot
+fn near_use(v: u16, a: u16) -> Option<u16>
     ensures { result ≡ near_use v a }
 {
     let p = 2 * (v as u32 / 2 + 1);
     if p < a as u32 {
-        return Spot::Point(p as u16);
+        return Some(p as u16);
     }
-    Spot::Nothing
+    None
 }
 
 // Where the partial split at a falls, if it works.
-pub fn partial_place(mode: Mode, start: u16, mentions: &[u32], range: Range, a: u16) -> Spot
+pub fn partial_place(mode: Mode, start: u16, mentions: &[u32], range: Range, a: u16) -> Option<u16>
     requires { Rising range mentions.now }
     ensures { result ≡ partial_place mode start (mention_points (part range mentions.now)) a }
 {
@@ -105,5 +104,5 @@ pub fn partial_place(mode: Mode, start: u16, mentions: &[u32], range: Range, a: 
         }
         return near_use(v, a);
     }
-    Spot::Nothing
+    None
 }

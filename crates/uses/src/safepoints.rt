@@ -4,7 +4,6 @@ ghost use Rattle.words.specs.Packed.{part};
 ghost use Rattle.uses.specs.Runs.{Ascending, Kept};
 ghost use Rattle.uses.specs.Safepoints.{head_of, use_below};
 
-use crate::Safepoint;
 use words::Range;
 
 // A safepoint stays at a split at p: its Use point is below p. In u64 the Use point of any word is a number.
@@ -33,13 +32,13 @@ pub fn staying_safepoints(safepoints: &[u32], range: Range, p: u16) -> u16
 }
 
 // The first safepoint of a run.
-pub fn first_safepoint(safepoints: &[u32], range: Range) -> Safepoint
+pub fn first_safepoint(safepoints: &[u32], range: Range) -> Option<u16>
     requires { Ascending range safepoints.now }
     ensures { result ≡ head_of (part range safepoints.now) }
 {
     if range.count == 0 {
-        return Safepoint::Missing;
+        return None;
     }
     let from = range.index as usize;
-    Safepoint::Instruction(safepoints[from] as u16)
+    Some(safepoints[from] as u16)
 }

@@ -1,7 +1,5 @@
 -- Document 01, "Points and packed words": points.
-use Rattle.std.specs.Prelude.{ℕ, zero, suc, ◌+◌, ◌*◌, ◌/◌, ◌%◌, Bool, ◌&&◌, leb, eqb}
-use Rattle.words.specs.declared.Spot.{Spot}
-use Rattle.words.specs.declared.Spot.TheVariants.{Nothing, Point}
+use Rattle.std.specs.Prelude.{ℕ, zero, suc, ◌+◌, ◌*◌, ◌/◌, ◌%◌, Bool, ◌&&◌, leb, eqb, Option, None, Some}
 
 -- Instruction i has Use point 2i
 abbrev pub use_point : ℕ → ℕ
@@ -16,13 +14,13 @@ abbrev pub next : ℕ → ℕ
 next p = p + 1
 
 -- Previous is minus 1; point 0 has no previous.
-abbrev pub previous : ℕ → Spot
-previous zero = Nothing
-previous (suc p) = Point p
+abbrev pub previous : ℕ → Option ℕ
+previous zero = None
+previous (suc p) = Some p
 
-abbrev pub previous_of : Spot → Spot
-previous_of Nothing = Nothing
-previous_of (Point p) = previous p
+abbrev pub previous_of : Option ℕ → Option ℕ
+previous_of None = None
+previous_of (Some p) = previous p
 
 -- the instruction of a point
 abbrev pub instruction_of : ℕ → ℕ

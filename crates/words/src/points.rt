@@ -2,7 +2,6 @@
 ghost use Rattle.std.specs.Prelude.{◌≡◌, ℕ, ◌+◌, ◌*◌, ◌<◌, ◌≤◌};
 ghost use Rattle.words.specs.Points.{use_point, def_point, next, previous, instruction_of, is_use};
 
-use crate::Spot;
 
 pub fn use_point(i: u16) -> u16
     requires { i < 32768 }
@@ -38,11 +37,11 @@ pub fn next_of(p: u16) -> u32
 }
 
 // Point 0 has no previous.
-pub fn previous_of(p: u16) -> Spot
+pub fn previous_of(p: u16) -> Option<u16>
     ensures { result ≡ previous p }
 {
     if p == 0 {
-        return Spot::Nothing;
+        return None;
     }
-    Spot::Point(p - 1)
+    Some(p - 1)
 }

@@ -13,8 +13,8 @@ active_at-j-requires c = record { ready = search rules; i_lt_active = search mas
 pub with_bit-mask-requires : goal.with_bit-mask-requires
 with_bit-mask-requires c = search seat_bit
 
-pub loop-i-preserved-in-Inside : goal.loop-i-preserved-in-Inside
-loop-i-preserved-in-Inside c = search mask_at
+pub loop-i-preserved-in-Some : goal.loop-i-preserved-in-Some
+loop-i-preserved-in-Some c = search mask_at
 
 pub loop-i-preserved : goal.loop-i-preserved
 loop-i-preserved c = search mask_past

@@ -25,8 +25,8 @@ offset_bounds-b-r c = search seat_span
 pub bounds-b-r : goal.bounds-b-r
 bounds-b-r c = search seat_fits
 
-pub loop-i-preserved-in-Inside : goal.loop-i-preserved-in-Inside
-loop-i-preserved-in-Inside c = search (next_used, walk_at)
+pub loop-i-preserved-in-Some : goal.loop-i-preserved-in-Some
+loop-i-preserved-in-Some c = search (next_used, walk_at)
 
 pub loop-i-preserved : goal.loop-i-preserved
 loop-i-preserved c = search walk_past

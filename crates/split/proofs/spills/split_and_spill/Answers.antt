@@ -6,8 +6,8 @@ use Rattle.split.proofs.spills.split_and_spill.Goals as goal
 pub last_use-last-requires : goal.last_use-last-requires
 last_use-last-requires c = search of_rising
 
-pub returns-in-Point : goal.returns-in-Point
-returns-in-Point c = search last_some
+pub returns-in-Some : goal.returns-in-Some
+returns-in-Some c = search last_some
 
-pub returns-in-Nothing : goal.returns-in-Nothing
-returns-in-Nothing c = search last_none
+pub returns-in-None : goal.returns-in-None
+returns-in-None c = search last_none

@@ -3,8 +3,8 @@
 use Rattle.steps.proofs.TakingLaws.{cut_part, cut_spill}
 use Rattle.steps.proofs.taking.cut_at.Goals as goal
 
-pub returns-in-Point : goal.returns-in-Point
-returns-in-Point c = search (cut_part, cut_spill)
+pub returns-in-Some : goal.returns-in-Some
+returns-in-Some c = search (cut_part, cut_spill)
 
-pub returns-in-Nothing : goal.returns-in-Nothing
-returns-in-Nothing c = search (cut_part, cut_spill)
+pub returns-in-None : goal.returns-in-None
+returns-in-None c = search (cut_part, cut_spill)

@@ -6,8 +6,8 @@ use Rattle.steps.proofs.taking.spill_holder.Goals as goal
 pub split_and_spill-requires : goal.split_and_spill-requires
 split_and_spill-requires c = search holder_held
 
-pub returns-in-Free : goal.returns-in-Free
-returns-in-Free c = search (unheld, robbed)
+pub returns-in-None : goal.returns-in-None
+returns-in-None c = search (unheld, robbed)
 
-pub returns-in-Held : goal.returns-in-Held
-returns-in-Held c = search (unheld, robbed)
+pub returns-in-Some : goal.returns-in-Some
+returns-in-Some c = search (unheld, robbed)

@@ -2,8 +2,8 @@
 use Rattle.store.proofs.WordLaws.{word_none, word_some}
 use Rattle.store.proofs.cells.home_word.Goals as goal
 
-pub returns-in-Unspilled : goal.returns-in-Unspilled
-returns-in-Unspilled c = search word_none
+pub returns-in-None : goal.returns-in-None
+returns-in-None c = search word_none
 
-pub returns-in-Spilled : goal.returns-in-Spilled
-returns-in-Spilled c = search word_some
+pub returns-in-Some : goal.returns-in-Some
+returns-in-Some c = search word_some

@@ -6,8 +6,8 @@ use Rattle.store.proofs.state.spill_by.Goals as goal
 pub first_spill-requires : goal.first_spill-requires
 first_spill-requires c = record { ready = search rules; k_lt_records = search rules; log_bound = search rules; homeless = search homeless }
 
-pub returns-in-Unspilled : goal.returns-in-Unspilled
-returns-in-Unspilled c = search spilled_first
+pub returns-in-None : goal.returns-in-None
+returns-in-None c = search spilled_first
 
-pub returns-in-Spilled : goal.returns-in-Spilled
-returns-in-Spilled c = search spilled_again
+pub returns-in-Some : goal.returns-in-Some
+returns-in-Some c = search spilled_again

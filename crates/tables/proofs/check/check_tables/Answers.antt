@@ -9,20 +9,20 @@ returns-in-Refused c = search in_order depth 8
 pub bad_class-requires : goal.bad_class-requires
 bad_class-requires c = search few_classes
 
-pub returns-in-Bad : goal.returns-in-Bad
-returns-in-Bad c = search in_order depth 8
+pub returns-in-Some : goal.returns-in-Some
+returns-in-Some c = search in_order depth 8
 
 pub bad_interval-requires : goal.bad_interval-requires
 bad_interval-requires c = (search few_instructions, search few_intervals)
 
-pub returns-in-Bad-bad_interval : goal.returns-in-Bad-bad_interval
-returns-in-Bad-bad_interval c = search in_order depth 8
+pub returns-in-Some-bad_interval : goal.returns-in-Some-bad_interval
+returns-in-Some-bad_interval c = search in_order depth 8
 
 pub bad_mention-requires : goal.bad_mention-requires
 bad_mention-requires c = (search ranged, search few_mentions)
 
-pub returns-in-Bad-bad_mention : goal.returns-in-Bad-bad_mention
-returns-in-Bad-bad_mention c = search in_order depth 8
+pub returns-in-Some-bad_mention : goal.returns-in-Some-bad_mention
+returns-in-Some-bad_mention c = search in_order depth 8
 
 pub bad_safepoint-requires : goal.bad_safepoint-requires
 bad_safepoint-requires c = (
@@ -30,14 +30,14 @@ bad_safepoint-requires c = (
   search few_safepoints,
 )
 
-pub returns-in-Bad-bad_safepoint : goal.returns-in-Bad-bad_safepoint
-returns-in-Bad-bad_safepoint c = search in_order depth 8
+pub returns-in-Some-bad_safepoint : goal.returns-in-Some-bad_safepoint
+returns-in-Some-bad_safepoint c = search in_order depth 8
 
 pub bad_fixed-requires : goal.bad_fixed-requires
 bad_fixed-requires c = (search few_instructions, search few_registers)
 
-pub returns-in-Bad-bad_fixed : goal.returns-in-Bad-bad_fixed
-returns-in-Bad-bad_fixed c = search in_order depth 8
+pub returns-in-Some-bad_fixed : goal.returns-in-Some-bad_fixed
+returns-in-Some-bad_fixed c = search in_order depth 8
 
 pub returns : goal.returns
 returns c = search in_order depth 8

@@ -12,8 +12,8 @@ loop-v-init c = search whole_starts
 pub first_mention-requires : goal.first_mention-requires
 first_mention-requires c = (search mention_range, search rules)
 
-pub returns-in-Bad : goal.returns-in-Bad
-returns-in-Bad c = search mentions_stop
+pub returns-in-Some : goal.returns-in-Some
+returns-in-Some c = search mentions_stop
 
 pub loop-v-preserved : goal.loop-v-preserved
 loop-v-preserved c = search (walk_more, mentions_clean)

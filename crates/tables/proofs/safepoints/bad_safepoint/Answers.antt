@@ -12,8 +12,8 @@ loop-v-init c = search whole_starts
 pub first_safepoint-requires : goal.first_safepoint-requires
 first_safepoint-requires c = (search safepoints_placed, search rules, search mentions_placed)
 
-pub returns-in-Bad : goal.returns-in-Bad
-returns-in-Bad c = search safepoints_stop
+pub returns-in-Some : goal.returns-in-Some
+returns-in-Some c = search safepoints_stop
 
 pub loop-v-preserved : goal.loop-v-preserved
 loop-v-preserved c = search (walk_more, safepoints_clean)

@@ -3,5 +3,5 @@
 use Rattle.tables.proofs.WalkLaws.{else_bad}
 use Rattle.tables.proofs.tests.or_else.Goals as goal
 
-pub returns-in-Bad : goal.returns-in-Bad
-returns-in-Bad c = search else_bad
+pub returns-in-Some : goal.returns-in-Some
+returns-in-Some c = search else_bad

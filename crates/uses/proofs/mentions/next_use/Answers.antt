@@ -6,8 +6,8 @@ use Rattle.uses.proofs.mentions.next_use.Goals as goal
 pub loop-n-init : goal.loop-n-init
 loop-n-init c = search seeking_starts
 
-pub returns-in-Point : goal.returns-in-Point
-returns-in-Point c = search seeking_found
+pub returns-in-Some : goal.returns-in-Some
+returns-in-Some c = search seeking_found
 
 pub loop-n-preserved : goal.loop-n-preserved
 loop-n-preserved c = search seeking_more

@@ -1,5 +1,6 @@
 -- The main loop: what is left to run is what there was to run. The state at its head is one that the rules reach, so nothing queued starts before the last start, and the cursors may only rise.
 -- Assumes nothing.
+use Rattle.std.specs.Prelude.{Ok, Err, Some}
 use Prim.Native.Nat.{ℕ, zero, suc, ◌+◌, ◌-◌, ◌/◌, ◌≤◌, ◌<◌}
 use mathlib.Core.Path.{◌≡◌, refl, sym, ap, ◌∙◌}
 use mathlib.Core.List.{List, [], ◌∷◌, Memᴰ}
@@ -10,7 +11,7 @@ use lib.Seq.{get_or-set_same}
 use Rattle.words.specs.Rows.{tab}
 use Rattle.words.proofs.Rows.{length_tab, get_d_tab}
 use Rattle.words.specs.Packed.{interval_count}
-use Rattle.rules.specs.declared.Answer.{Answer}
+use Rattle.rules.specs.declared.Refusal.{Refusal}
 use Rattle.rules.specs.declared.Mode.{Mode}
 use Rattle.rules.specs.declared.Piece.{Piece}
 use Rattle.rules.specs.declared.Pos.{Pos}
@@ -32,8 +33,7 @@ use Rattle.activity.specs.declared.Tracker.{Tracker}
 use Rattle.activity.specs.Cursors.{Cursors, Facing, fresh_of}
 use Rattle.activity.proofs.CursorLaws.{fixed_tables_lem, fresh_cursors, ready, updated_facing}
 use Rattle.choice.specs.Holding.{FreeRow}
-use Rattle.split.specs.declared.Turn.{Turn}
-use Rattle.split.specs.declared.Turn.TheVariants.{On, Off}
+use Rattle.split.specs.Turns.{Turn}
 use Rattle.split.specs.Fit.{PieceFits, Fit}
 use Rattle.split.specs.Turns.{outcome_of}
 use Rattle.steps.specs.Stepping.{Tabled, Stepping, stepping, Did}
@@ -42,9 +42,7 @@ use Rattle.assign.specs.declared.Front.{Front}
 use Rattle.assign.specs.Calling.{Checked, Begun, Ran, Ends}
 use Rattle.assign.specs.Calling as calling
 use Rattle.assign.specs.Looping.{Turning, Fronted, Trackable, tracked_to, Faces, Takes, Read, Settling, settled, contended}
-use Rattle.steps.specs.declared.Tried.{Tried}
-use Rattle.steps.specs.declared.Tried.TheVariants.{Taken}
-use Rattle.steps.specs.declared.Tried.TheVariants as tried
+use Rattle.steps.specs.Stepping.{Tried}
 use Rattle.assign.proofs.FrontLaws.{dropped_pieces}
 use Rattle.assign.proofs.SettleLaws.{did_stays}
 
@@ -117,7 +115,7 @@ module _ (n : ℕ) (m : Mode) (cs rs fs is ms ss : List ℕ) (cap : ℕ) (ws₀ 
       record { ready = o.ready; rows = o.rows; few = a.few; class = a.class }
 
   -- nothing is queued
-  pub going_empty : c.queued ≡ 0 → Ran m (tables n cs rs fs is ms ss) cap ws₀ ws (On c)
+  pub going_empty : c.queued ≡ 0 → Ran m (tables n cs rs fs is ms ss) cap ws₀ ws (Ok c)
   unfolding outcome_of
   going_empty e =
       record {
@@ -127,7 +125,7 @@ module _ (n : ℕ) (m : Mode) (cs rs fs is ms ss : List ℕ) (cap : ℕ) (ws₀ 
       }
 
   -- as many turns as the capacity
-  pub going_out : cap ≤ turn → Ran m (tables n cs rs fs is ms ss) cap ws₀ ws (On c)
+  pub going_out : cap ≤ turn → Ran m (tables n cs rs fs is ms ss) cap ws₀ ws (Ok c)
   unfolding outcome_of run
   going_out h = let left : cap - turn ≡ 0 = omega arith in record { meets = rw left at o.rest; ends = calling.done c o.ready; long = o.long }
 
@@ -194,13 +192,13 @@ module _ (n : ℕ) (m : Mode) (cs rs fs is ms ss : List ℕ) (cap : ℕ) (ws₀ 
     -- the turn is steps 2 to 5, of which 4 may have been called apart
     module _ (row : List Pos) (w : FreeRow rs fs (state_of cap ws₁ f.counts) (piece (state_of cap ws₁ f.counts) f.record) f.class.first f.class.count row) (ws₂ : List ℕ) (x : Tried)
         (y : Settling cap m is ms ss ws₁ ws₂ f (get_or (set free f.index row) f.index []) x) where
-      pub did_settle : (z : Turn) → x ≡ Taken z → Did cap ms ss ws₁ ws₂ f.counts z (settled (stepping n m cs rs fs is ms ss cap) (state_of cap ws₁ f.counts) f.record)
+      pub did_settle : (z : Turn) → x ≡ Some z → Did cap ms ss ws₁ ws₂ f.counts z (settled (stepping n m cs rs fs is ms ss cap) (state_of cap ws₁ f.counts) f.record)
       did_settle z q = y.taken n cs rs fs (going_read row w) z q
 
-      pub still_steps : (u : Tracker) → u ≡ tracked_to rs fs t f → x ≡ tried.Blocked → Stepping cap cs rs fs is ms ss ws₂ f.counts u f.record
+      pub still_steps : (u : Tracker) → u ≡ tracked_to rs fs t f → x ≡ None → Stepping cap cs rs fs is ms ss ws₂ f.counts u f.record
       still_steps u moves q = rw (y.kept q) (going_steps u moves)
 
-      pub did_contend : (ws₃ : List ℕ) (z : Turn) → x ≡ tried.Blocked → Did cap ms ss ws₂ ws₃ f.counts z (contended (stepping n m cs rs fs is ms ss cap) (state_of cap ws₂ f.counts) f.record)
+      pub did_contend : (ws₃ : List ℕ) (z : Turn) → x ≡ None → Did cap ms ss ws₂ ws₃ f.counts z (contended (stepping n m cs rs fs is ms ss cap) (state_of cap ws₂ f.counts) f.record)
           → Did cap ms ss ws₁ ws₃ f.counts z (settled (stepping n m cs rs fs is ms ss cap) (state_of cap ws₁ f.counts) f.record)
       did_contend ws₃ z q d = rw (y.blocked n cs rs fs (going_read row w) q) (rw (y.kept q) at d)
 
@@ -223,7 +221,7 @@ module _ (n : ℕ) (m : Mode) (cs rs fs is ms ss : List ℕ) (cap : ℕ) (ws₀ 
           ∙ ap (λ (k : ℕ). run k (stepping n m cs rs fs is ms ss cap) (state_of cap ws c)) (sym left)
           ∙ o.rest
 
-      pub going_on : (u : Tracker) → u ≡ tracked_to rs fs t f → (e : Counts) (i : ℕ) (row : List Pos) → r ≡ On e → Going n m cs rs fs is ms ss cap ws₀ ws₂ e u (set free i row) (turn + 1)
+      pub going_on : (u : Tracker) → u ≡ tracked_to rs fs t f → (e : Counts) (i : ℕ) (row : List Pos) → r ≡ Ok e → Going n m cs rs fs is ms ss cap ws₀ ws₂ e u (set free i row) (turn + 1)
       unfolding outcome_of
       going_on u moves e i row q =
           let w = did_stays cap ms ss ws₁ ws₂ f.counts e r _ d q in
@@ -243,6 +241,6 @@ module _ (n : ℕ) (m : Mode) (cs rs fs is ms ss : List ℕ) (cap : ℕ) (ws₀ 
             wide = simp length-set o.wide;
           }
 
-      pub going_off : (a : Answer) → r ≡ Off a → Ran m (tables n cs rs fs is ms ss) cap ws₀ ws₂ (Off a)
+      pub going_off : (a : Refusal) → r ≡ Err a → Ran m (tables n cs rs fs is ms ss) cap ws₀ ws₂ (Err a)
       unfolding outcome_of
       going_off a q = record { meets = rw q at turned; ends = calling.refused a; long = d.long ∙ p.long ∙ o.long }

@@ -1,5 +1,6 @@
 -- Steps 2 to 5 for the popped record: the furthest register of the free-until row is the rules' choice, and the safepoints are looked at where the record goes on.
 -- Assumes nothing.
+use Rattle.std.specs.Prelude.{Ok, Err, Some}
 use Prim.Native.Nat.{ℕ, ◌<◌}
 use mathlib.Core.Path.{◌≡◌, refl, sym, ap, ◌∙◌}
 use mathlib.Core.Bool.{Bool, true, false, not}
@@ -7,9 +8,9 @@ use mathlib.Core.List.{List, []}
 use native.Mathlib.Omega.{arith}
 use Rattle.words.specs.declared.Class.{Class}
 use Rattle.words.specs.Packed.{interval_count}
-use Rattle.rules.specs.declared.Answer.{Answer}
-use Rattle.rules.specs.declared.Choice.{Choice}
-use Rattle.rules.specs.declared.Choice.TheVariants.{AllBlocked}
+use Rattle.rules.specs.declared.Refusal.{Refusal}
+use Rattle.rules.specs.Steps.{Choice}
+use Rattle.std.specs.Prelude.{None, Some}
 use Rattle.rules.specs.declared.Mode.{Mode}
 use Rattle.rules.specs.declared.Pos.{Pos}
 use Rattle.rules.specs.declared.Strategy.{Strategy}
@@ -20,14 +21,11 @@ use Rattle.store.specs.StateOf.{state_of, Ready}
 use Rattle.choice.specs.Row.{pos_in}
 use Rattle.choice.proofs.ChoiceLaws.{free_choice}
 use Rattle.activity.specs.declared.Tracker.{Tracker}
-use Rattle.split.specs.declared.Turn.{Turn}
-use Rattle.split.specs.declared.Turn.TheVariants.{On, Off}
+use Rattle.split.specs.Turns.{Turn}
 use Rattle.split.specs.Turns.{cutting, outcome_of, HeldOf, Does}
 use Rattle.safepoints.specs.Safepoint.{looking}
 use Rattle.safepoints.proofs.SafepointLaws.{handle_narrow, passed}
-use Rattle.steps.specs.declared.Tried.{Tried}
-use Rattle.steps.specs.declared.Tried.TheVariants.{Taken}
-use Rattle.steps.specs.declared.Tried.TheVariants as tried
+use Rattle.steps.specs.Stepping.{Tried}
 use Rattle.steps.specs.Stepping.{stepping, Parting, Stepping, Tries, Stays, Ended, ended, refused, Did}
 use Rattle.steps.proofs.AllocateLaws.{taken_only}
 use Rattle.steps.proofs.TakingLaws.{ended_from}
@@ -35,10 +33,10 @@ use Rattle.assign.specs.declared.Front.{Front}
 use Rattle.assign.specs.Looping.{Takes, Looking, Past, Finishing, Finished, Read, Settling, contended}
 
 -- a turn that goes on stays ready
-pub did_stays : (cap : ℕ) (ms ss ws ws' : List ℕ) (c e : Counts) (r : Turn) (o : Outcome) → Did cap ms ss ws ws' c r o → r ≡ On e → Stays cap ms ss ws' c e
+pub did_stays : (cap : ℕ) (ms ss ws ws' : List ℕ) (c e : Counts) (r : Turn) (o : Outcome) → Did cap ms ss ws ws' c r o → r ≡ Ok e → Stays cap ms ss ws' c e
 did_stays cap ms ss ws ws' c e r o d q = go r d.ends q
   where
-    go : (u : Turn) → Ended cap ms ss ws' c u → u ≡ On e → Stays cap ms ss ws' c e
+    go : (u : Turn) → Ended cap ms ss ws' c u → u ≡ Ok e → Stays cap ms ss ws' c e
     go u (ended x w) i = let same : x ≡ e = cc in rw same at w
     go u (refused a) i = let z : ◌≡◌ {A = ℕ} 0 1 = cc in absurd (omega arith)
 
@@ -47,12 +45,12 @@ pub take_tries : (cap : ℕ) (m : Mode) (ms ss ws ws' : List ℕ) (c : Counts) (
 take_tries cap m ms ss ws ws' c k x y t h e = rw e at h
 
 -- ---- step 5 by itself
-pub finish_held : (cap : ℕ) (is ms ss ws : List ℕ) (k : ℕ) (x : Turn) (c : Counts) → Finishing cap is ms ss ws k x → x ≡ On c → HeldOf cap is ms ss ws c k
+pub finish_held : (cap : ℕ) (is ms ss ws : List ℕ) (k : ℕ) (x : Turn) (c : Counts) → Finishing cap is ms ss ws k x → x ≡ Ok c → HeldOf cap is ms ss ws c k
 finish_held cap is ms ss ws k x c h q = h.held c q
 
 -- whether anything is left to do
 module _ (cap : ℕ) (is ws : List ℕ) (k : ℕ) (x : Turn) where
-  module _ (c : Counts) (h : Looking cap is ws k x) (q : x ≡ On c) where
+  module _ (c : Counts) (h : Looking cap is ws k x) (q : x ≡ Ok c) where
     pub look_ready : Ready cap ws c
     look_ready = h.ready c q
 
@@ -62,18 +60,18 @@ module _ (cap : ℕ) (is ws : List ℕ) (k : ℕ) (x : Turn) where
     pub look_rows : c.intervals ≡ interval_count is
     look_rows = h.rows c q
 
-  pub past_on : (c : Counts) (b : Bool) → x ≡ On c → b ≡ looking is (piece (state_of cap ws c) k) → Past cap is ws k x (not b)
+  pub past_on : (c : Counts) (b : Bool) → x ≡ Ok c → b ≡ looking is (piece (state_of cap ws c) k) → Past cap is ws k x (not b)
   past_on c b q e = record { past = λ t d i. let same : c ≡ d = cc in rw (← same, ← e) (turned b t) }
     where
       turned : (y : Bool) → not y ≡ true → y ≡ false
       turned true r = sym r
       turned false r = refl
 
-  pub past_off : (a : Answer) → x ≡ Off a → Past cap is ws k x true
+  pub past_off : (a : Refusal) → x ≡ Err a → Past cap is ws k x true
   past_off a q = record { past = λ t c i. absurd (let y : ◌≡◌ {A = ℕ} 0 1 = cc in omega arith) }
 
 module _ (cap : ℕ) (z : Strategy) (is ms ss ws ws' : List ℕ) (k : ℕ) (x : Turn) where
-  pub finish_on : (c : Counts) (r : Turn) → x ≡ On c → Does cap ms ss ws ws' c r (handle_safepoints (cutting z is ms ss cap) (state_of cap ws c) k) → Finished cap z is ms ss ws ws' k x r
+  pub finish_on : (c : Counts) (r : Turn) → x ≡ Ok c → Does cap ms ss ws ws' c r (handle_safepoints (cutting z is ms ss cap) (state_of cap ws c) k) → Finished cap z is ms ss ws ws' k x r
   finish_on c r q d =
       record {
         on = λ e i. let same : c ≡ e = cc in rw same at d;
@@ -81,7 +79,7 @@ module _ (cap : ℕ) (z : Strategy) (is ms ss ws ws' : List ℕ) (k : ℕ) (x : 
         kept = λ a i. absurd (let y : ◌≡◌ {A = ℕ} 0 1 = cc in omega arith);
       }
 
-pub finish_off : (cap : ℕ) (z : Strategy) (is ms ss ws : List ℕ) (k : ℕ) (x : Turn) (a : Answer) → x ≡ Off a → Finished cap z is ms ss ws ws k x (Off a)
+pub finish_off : (cap : ℕ) (z : Strategy) (is ms ss ws : List ℕ) (k : ℕ) (x : Turn) (a : Refusal) → x ≡ Err a → Finished cap z is ms ss ws ws k x (Err a)
 finish_off cap z is ms ss ws k x a q =
     record {
       on = λ c i. absurd (let y : ◌≡◌ {A = ℕ} 0 1 = cc in omega arith);
@@ -94,10 +92,10 @@ pub finish_past : (cap : ℕ) (z : Strategy) (is ms ss ws : List ℕ) (k : ℕ) 
 finish_past cap z is ms ss ws k x b h p t = go x refl
   where
     go : (y : Turn) → x ≡ y → Finished cap z is ms ss ws ws k x x
-    go (On c) q =
+    go (Ok c) q =
         let e : looking is (piece (state_of cap ws c) k) ≡ false = p.past t c q in
-        rw q (rw q at (finish_on cap z is ms ss ws ws k x c (On c) q (passed cap is ms ss ws c k z _ refl (h.held c q) e)))
-    go (Off a) q = rw q (rw q at (finish_off cap z is ms ss ws k x a q))
+        rw q (rw q at (finish_on cap z is ms ss ws ws k x c (Ok c) q (passed cap is ms ss ws c k z _ refl (h.held c q) e)))
+    go (Err a) q = rw q (rw q at (finish_off cap z is ms ss ws k x a q))
 
 pub held_looking : (cap : ℕ) (is ms ss ws : List ℕ) (k : ℕ) (x : Turn) → Finishing cap is ms ss ws k x → Looking cap is ws k x
 held_looking cap is ms ss ws k x h =
@@ -105,7 +103,7 @@ held_looking cap is ms ss ws k x h =
 
 -- ---- after steps 2 to 4, which did x, step 5 did r
 module _ (cap n : ℕ) (m : Mode) (cs rs fs is ms ss ws ws₁ ws₂ : List ℕ) (c : Counts) (k : ℕ) (x r : Turn) (o : Outcome) (d : Did cap ms ss ws ws₁ c x o) (b : Finished cap m.strategy is ms ss ws₁ ws₂ k x r) where
-  settled_on : (e : Counts) → x ≡ On e → Did cap ms ss ws ws₂ c r (go_on o (λ t. handle_safepoints (stepping n m cs rs fs is ms ss cap) t k))
+  settled_on : (e : Counts) → x ≡ Ok e → Did cap ms ss ws ws₂ c r (go_on o (λ t. handle_safepoints (stepping n m cs rs fs is ms ss cap) t k))
   unfolding outcome_of
   settled_on e q =
       let g : Given = stepping n m cs rs fs is ms ss cap in
@@ -118,7 +116,7 @@ module _ (cap n : ℕ) (m : Mode) (cs rs fs is ms ss ws ws₁ ws₂ : List ℕ) 
         long = v.long ∙ d.long;
       }
 
-  settled_off : (a : Answer) → x ≡ Off a → Did cap ms ss ws ws₂ c r (go_on o (λ t. handle_safepoints (stepping n m cs rs fs is ms ss cap) t k))
+  settled_off : (a : Refusal) → x ≡ Err a → Did cap ms ss ws ws₂ c r (go_on o (λ t. handle_safepoints (stepping n m cs rs fs is ms ss cap) t k))
   unfolding outcome_of
   settled_off a q =
       let g : Given = stepping n m cs rs fs is ms ss cap in
@@ -130,8 +128,8 @@ module _ (cap n : ℕ) (m : Mode) (cs rs fs is ms ss ws ws₁ ws₂ : List ℕ) 
   settles = go x refl
     where
       go : (y : Turn) → x ≡ y → Did cap ms ss ws ws₂ c r (go_on o (λ t. handle_safepoints (stepping n m cs rs fs is ms ss cap) t k))
-      go (On e) q = settled_on e q
-      go (Off a) q = settled_off a q
+      go (Ok e) q = settled_on e q
+      go (Err a) q = settled_off a q
 
 -- a record that went on can be looked at for its safepoints
 pub went_held : (cap : ℕ) (is ms ss ws ws₁ : List ℕ) (c : Counts) (k : ℕ) (x : Turn) (o : Outcome) → k < c.records → c.intervals ≡ interval_count is → Did cap ms ss ws ws₁ c x o
@@ -145,9 +143,9 @@ went_held cap is ms ss ws ws₁ c k x o i h d =
 
 -- ---- what was tried is what the rules do, or step 4 is due
 module _ (cap : ℕ) (m : Mode) (is ms ss ws ws₁ : List ℕ) (f : Front) (row : List Pos) (t : Tried)
-    (y : Tries cap m ms ss ws ws₁ f.counts f.record (furthest (pos_in row) f.class.scratch f.class.first f.class.count AllBlocked) t) where
+    (y : Tries cap m ms ss ws ws₁ f.counts f.record (furthest (pos_in row) f.class.scratch f.class.first f.class.count None) t) where
   chosen : (n : ℕ) (cs rs fs : List ℕ) → Read cap cs rs fs is ws f row
-      → try_take (stepping n m cs rs fs is ms ss cap) (state_of cap ws f.counts) f.record (furthest (pos_in row) f.class.scratch f.class.first f.class.count AllBlocked)
+      → try_take (stepping n m cs rs fs is ms ss cap) (state_of cap ws f.counts) f.record (furthest (pos_in row) f.class.scratch f.class.first f.class.count None)
       ≡ allocate (stepping n m cs rs fs is ms ss cap) (state_of cap ws f.counts) f.record
   unfolding allocate
   chosen n cs rs fs h =
@@ -156,13 +154,13 @@ module _ (cap : ℕ) (m : Mode) (is ms ss ws ws₁ : List ℕ) (f : Front) (row 
       ap (try_take g s f.record) (free_choice g f.class rs fs s (piece s f.record) row _ refl refl refl h.free ∙ ap (λ (c : Class). furthest_of c (free_until g s (piece s f.record))) h.class)
 
   -- a register was taken, so step 5 can follow
-  pub took_held : (z : Turn) → Takes cap is ms ss ws f → t ≡ Taken z → Finishing cap is ms ss ws₁ f.record z
+  pub took_held : (z : Turn) → Takes cap is ms ss ws f → t ≡ Some z → Finishing cap is ms ss ws₁ f.record z
   took_held z p q = went_held cap is ms ss ws ws₁ f.counts f.record z _ p.popping.inside p.popping.rows (y.taken 0 [] [] [] is z q)
 
-  pub took_looking : (z : Turn) → Takes cap is ms ss ws f → t ≡ Taken z → Looking cap is ws₁ f.record z
+  pub took_looking : (z : Turn) → Takes cap is ms ss ws f → t ≡ Some z → Looking cap is ws₁ f.record z
   took_looking z p q = held_looking cap is ms ss ws₁ f.record z (took_held z p q)
 
-  pub settle_taken : (ws₂ : List ℕ) (z r : Turn) → t ≡ Taken z → Finished cap m.strategy is ms ss ws₁ ws₂ f.record z r → Settling cap m is ms ss ws ws₂ f row (Taken r)
+  pub settle_taken : (ws₂ : List ℕ) (z r : Turn) → t ≡ Some z → Finished cap m.strategy is ms ss ws₁ ws₂ f.record z r → Settling cap m is ms ss ws ws₂ f row (Some r)
   settle_taken ws₂ z r q b =
       record {
         taken = λ n cs rs fs h x i.
@@ -173,10 +171,10 @@ module _ (cap : ℕ) (m : Mode) (is ms ss ws ws₁ : List ℕ) (f : Front) (row 
       }
 
   -- nothing is left for step 5
-  pub settle_past : (z : Turn) (b : Bool) → Takes cap is ms ss ws f → t ≡ Taken z → Past cap is ws₁ f.record z b → b ≡ true → Settling cap m is ms ss ws ws₁ f row (Taken z)
+  pub settle_past : (z : Turn) (b : Bool) → Takes cap is ms ss ws f → t ≡ Some z → Past cap is ws₁ f.record z b → b ≡ true → Settling cap m is ms ss ws ws₁ f row (Some z)
   settle_past z b p q w e = settle_taken ws₁ z z q (finish_past cap m.strategy is ms ss ws₁ f.record z b (took_held z p q) w e)
 
-  pub settle_none : t ≡ tried.Blocked → Settling cap m is ms ss ws ws₁ f row tried.Blocked
+  pub settle_none : t ≡ None → Settling cap m is ms ss ws ws₁ f row None
   settle_none q =
       record {
         taken = λ n cs rs fs h x i. absurd (let e : ◌≡◌ {A = ℕ} 0 1 = cc in omega arith);

@@ -1,7 +1,7 @@
 -- Facts for contracts: what the checks at entry give the run, how a run ends, and what the call makes of its end.
-use Rattle.std.specs.Prelude.{ℕ, ◌+◌, ◌*◌, ◌≤◌, ◌≡◌, Bool, List, length}
+use Rattle.std.specs.Prelude.{ℕ, ◌+◌, ◌*◌, ◌≤◌, ◌≡◌, Bool, List, length, Ok, Err}
 use Rattle.words.specs.Packed.{interval_count}
-use Rattle.rules.specs.declared.Answer.{Answer}
+use Rattle.rules.specs.declared.Refusal.{Refusal}
 use Rattle.rules.specs.declared.Mode.{Mode}
 use Rattle.rules.specs.declared.Options.{Options}
 use Rattle.rules.specs.Tables.{Tables}
@@ -12,8 +12,7 @@ use Rattle.rules.specs.Run.{begin}
 use Rattle.rules.specs.Call.{finish, run_for}
 use Rattle.store.specs.declared.Counts.{Counts}
 use Rattle.store.specs.StateOf.{state_of, Ready}
-use Rattle.split.specs.declared.Turn.{Turn}
-use Rattle.split.specs.declared.Turn.TheVariants.{On, Off}
+use Rattle.split.specs.Turns.{Turn}
 use Rattle.split.specs.Turns.{outcome_of}
 
 -- the options of a call
@@ -41,8 +40,8 @@ pub record Begun (T : Tables) (cap : ℕ) (ws : List ℕ) (c : Counts) : Type 0 
 
 -- the area at the end of a run: where it is done, the records can be read
 pub data Ends (cap : ℕ) (ws : List ℕ) : Turn → Type 0 where
-  done : (c : Counts) → Ready cap ws c → Ends cap ws (On c)
-  refused : (a : Answer) → Ends cap ws (Off a)
+  done : (c : Counts) → Ready cap ws c → Ends cap ws (Ok c)
+  refused : (a : Refusal) → Ends cap ws (Err a)
 
 -- the run ended as the rules say
 pub record Ran (m : Mode) (T : Tables) (cap : ℕ) (ws ws' : List ℕ) (r : Turn) : Type 0 where

@@ -1,7 +1,7 @@
 -- Facts for contracts: the head of the main loop, and the record that a turn of it pops, with step 1 of document 01 done.
-use Rattle.std.specs.Prelude.{ℕ, ◌+◌, ◌≤◌, ◌<◌, ◌≡◌, Bool, true, false, List, ◌∷◌, length}
+use Rattle.std.specs.Prelude.{ℕ, ◌+◌, ◌≤◌, ◌<◌, ◌≡◌, Bool, true, false, List, ◌∷◌, length, Ok, Err, None, Some}
 use Rattle.words.specs.Packed.{class_at, interval_at, interval_count}
-use Rattle.rules.specs.declared.Answer.{Answer}
+use Rattle.rules.specs.declared.Refusal.{Refusal}
 use Rattle.rules.specs.declared.Mode.{Mode}
 use Rattle.rules.specs.declared.Pos.{Pos}
 use Rattle.rules.specs.declared.Strategy.{Strategy}
@@ -13,12 +13,10 @@ use Rattle.activity.specs.declared.Tracker.{Tracker}
 use Rattle.activity.specs.Cursors.{Facing, advanced}
 use Rattle.activity.specs.Cursors as cursors
 use Rattle.choice.specs.Holding.{FreeRow}
-use Rattle.split.specs.declared.Turn.{Turn}
-use Rattle.split.specs.declared.Turn.TheVariants.{On, Off}
+use Rattle.split.specs.Turns.{Turn}
 use Rattle.split.specs.Turns.{cutting, HeldOf, Does}
 use Rattle.safepoints.specs.Safepoint.{looking}
-use Rattle.steps.specs.declared.Tried.{Tried}
-use Rattle.steps.specs.declared.Tried.TheVariants.{Taken, Blocked}
+use Rattle.steps.specs.Stepping.{Tried}
 use Rattle.steps.specs.Stepping.{class_for, stepping, Popping, Did}
 use Rattle.assign.specs.declared.Start.{Start}
 use Rattle.assign.specs.declared.Front.{Front}
@@ -86,23 +84,23 @@ pub record Takes (cap : ℕ) (is ms ss ws : List ℕ) (f : Front) : Type 0 where
 
 -- record k lies in the area, where steps 2 to 4 went on
 pub record Looking (cap : ℕ) (is ws : List ℕ) (k : ℕ) (x : Turn) : Type 0 where
-  pub ready : (c : Counts) → x ≡ On c → Ready cap ws c
-  pub inside : (c : Counts) → x ≡ On c → k < c.records
-  pub rows : (c : Counts) → x ≡ On c → c.intervals ≡ interval_count is
+  pub ready : (c : Counts) → x ≡ Ok c → Ready cap ws c
+  pub inside : (c : Counts) → x ≡ Ok c → k < c.records
+  pub rows : (c : Counts) → x ≡ Ok c → c.intervals ≡ interval_count is
 
 -- it does not look at safepoints, if the answer is yes
 pub record Past (cap : ℕ) (is ws : List ℕ) (k : ℕ) (x : Turn) (b : Bool) : Type 0 where
-  pub past : b ≡ true → (c : Counts) → x ≡ On c → looking is (piece (state_of cap ws c) k) ≡ false
+  pub past : b ≡ true → (c : Counts) → x ≡ Ok c → looking is (piece (state_of cap ws c) k) ≡ false
 
 -- record k can be looked at for its safepoints, where steps 2 to 4 went on
 pub record Finishing (cap : ℕ) (is ms ss ws : List ℕ) (k : ℕ) (x : Turn) : Type 0 where
-  pub held : (c : Counts) → x ≡ On c → HeldOf cap is ms ss ws c k
+  pub held : (c : Counts) → x ≡ Ok c → HeldOf cap is ms ss ws c k
 
 -- .. and was
 pub record Finished (cap : ℕ) (z : Strategy) (is ms ss ws ws' : List ℕ) (k : ℕ) (x r : Turn) : Type 0 where
-  pub on : (c : Counts) → x ≡ On c → Does cap ms ss ws ws' c r (handle_safepoints (cutting z is ms ss cap) (state_of cap ws c) k)
-  pub off : (a : Answer) → x ≡ Off a → r ≡ Off a
-  pub kept : (a : Answer) → x ≡ Off a → ws' ≡ ws
+  pub on : (c : Counts) → x ≡ Ok c → Does cap ms ss ws ws' c r (handle_safepoints (cutting z is ms ss cap) (state_of cap ws c) k)
+  pub off : (a : Refusal) → x ≡ Err a → r ≡ Err a
+  pub kept : (a : Refusal) → x ≡ Err a → ws' ≡ ws
 
 -- steps 2 to 5, once what ended is dropped
 abbrev pub settled : Given → State → ℕ → Outcome
@@ -119,8 +117,8 @@ pub record Read (cap : ℕ) (cs rs fs is ws : List ℕ) (f : Front) (row : List 
 
 -- the front's record was settled as the rules say, whatever tables its class and row are of; or steps 4 and 5 are due
 pub record Settling (cap : ℕ) (m : Mode) (is ms ss ws ws' : List ℕ) (f : Front) (row : List Pos) (t : Tried) : Type 0 where
-  pub taken : (n : ℕ) (cs rs fs : List ℕ) → Read cap cs rs fs is ws f row → (z : Turn) → t ≡ Taken z
+  pub taken : (n : ℕ) (cs rs fs : List ℕ) → Read cap cs rs fs is ws f row → (z : Turn) → t ≡ Some z
       → Did cap ms ss ws ws' f.counts z (settled (stepping n m cs rs fs is ms ss cap) (state_of cap ws f.counts) f.record)
-  pub blocked : (n : ℕ) (cs rs fs : List ℕ) → Read cap cs rs fs is ws f row → t ≡ Blocked
+  pub blocked : (n : ℕ) (cs rs fs : List ℕ) → Read cap cs rs fs is ws f row → t ≡ None
       → settled (stepping n m cs rs fs is ms ss cap) (state_of cap ws f.counts) f.record ≡ contended (stepping n m cs rs fs is ms ss cap) (state_of cap ws f.counts) f.record
-  pub kept : t ≡ Blocked → ws' ≡ ws
+  pub kept : t ≡ None → ws' ≡ ws

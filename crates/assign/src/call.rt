@@ -5,27 +5,25 @@ ghost use Rattle.tables.specs.Given.{tables};
 ghost use Rattle.assign.specs.Calling.{options, Allowed, Closing, Concluded};
 
 use crate::{entry, run};
-use rules::{Answer, Check, Mode};
-use split::Turn;
-use store::area;
+use rules::{Answer, Done, Mode, Refusal};
+use store::{Counts, area};
 
 // The records of a run that is done; zeros for one that was refused.
-fn conclude(work: &[u32], res: &mut [u32], turn: Turn, cap: usize) -> Answer
+fn conclude(work: &[u32], res: &mut [u32], turn: Result<Counts, Refusal>, cap: usize) -> Answer
     requires { Closing cap work.now res.old turn }
     ensures { Concluded (outcome_of cap work.now turn) res.old res.new result }
 {
     match turn {
-        Turn::On(counts) => {
+        Ok(counts) => {
             area::emit(work, res, cap, counts);
-            let count = counts.records as u32;
-            Answer::Done {
-                count: count,
+            Ok(Done {
+                count: counts.records as u32,
                 total: counts.total,
-            }
+            })
         }
-        Turn::Off(answer) => {
+        Err(refusal) => {
             area::zero(res, cap);
-            answer
+            Err(refusal)
         }
     }
 }
@@ -82,10 +80,10 @@ pub fn assign(
     ensures { Assigned (options strategy partial_split partial_split_near_end) (tables instructions classes.now registers.now fragments.now intervals.now mentions.now safepoints.now) res.old res.new work.old work.new result }
 {
     let Some(known) = entry::strategy_of(strategy) else {
-        return Answer::BadStrategy;
+        return Err(Refusal::BadStrategy);
     };
     let cap = entry::capacity_of(res);
-    if let Check::Refused(answer) = entry::check(
+    entry::check(
         instructions,
         classes,
         registers,
@@ -95,9 +93,7 @@ pub fn assign(
         safepoints,
         cap,
         work.len(),
-    ) {
-        return answer;
-    }
+    )?;
     let mode = Mode {
         strategy: known,
         partial_split: partial_split,

@@ -5,7 +5,7 @@ ghost use Rattle.rules.specs.Room.{capacity, strategy_of, check_room};
 ghost use Rattle.rules.specs.Call.{check as checkOf};
 ghost use Rattle.tables.specs.Given.{tables};
 
-use rules::{Answer, Check, Strategy};
+use rules::{Refusal, Strategy};
 use tables::check;
 
 const RECORD_WORDS: usize = 2;
@@ -47,17 +47,17 @@ pub(crate) fn capacity_of(res: &[u32]) -> usize
 }
 
 // 9: a record for each interval, and a work area long enough for the capacity.
-fn check_room(intervals: usize, cap: usize, work: usize) -> Check
+fn check_room(intervals: usize, cap: usize, work: usize) -> Result<(), Refusal>
     requires { cap ≤ 16384 }
     ensures { result ≡ check_room intervals cap work }
 {
     if cap < intervals {
-        return Check::Refused(Answer::NoRoom);
+        return Err(Refusal::NoRoom);
     }
     if work < WORK_WORDS * cap + WORK_BESIDES {
-        return Check::Refused(Answer::NoRoom);
+        return Err(Refusal::NoRoom);
     }
-    Check::Fine
+    Ok(())
 }
 
 // 3 to 8, then 9; the first refusal is the answer.
@@ -71,11 +71,11 @@ pub(crate) fn check(
     safepoints: &[u32],
     cap: usize,
     work: usize,
-) -> Check
+) -> Result<(), Refusal>
     requires { cap ≤ 16384 }
     ensures { result ≡ checkOf (tables instructions classes.now registers.now fragments.now intervals.now mentions.now safepoints.now) cap work }
 {
-    if let Check::Refused(a) = check::check_tables(
+    check::check_tables(
         instructions,
         classes,
         registers,
@@ -83,8 +83,6 @@ pub(crate) fn check(
         intervals,
         mentions,
         safepoints,
-    ) {
-        return Check::Refused(a);
-    }
+    )?;
     check_room(intervals.len() / INTERVAL_WORDS, cap, work)
 }

@@ -4,9 +4,7 @@ ghost use Rattle.assign.specs.Calling.{Begun, Ran};
 
 use crate::{fronts, settling};
 use choice::rows;
-use rules::Mode;
-use split::Turn;
-use steps::Tried;
+use rules::{Mode, Refusal};
 use store::Counts;
 
 pub(crate) fn run(
@@ -21,7 +19,7 @@ pub(crate) fn run(
     work: &mut [u32],
     cap: usize,
     begun: Counts,
-) -> Turn
+) -> Result<Counts, Refusal>
     requires { Begun (tables instructions classes.now registers.now fragments.now intervals.now mentions.now safepoints.now) cap work.old begun }
     ensures { Ran mode (tables instructions classes.now registers.now fragments.now intervals.now mentions.now safepoints.now) cap work.old work.new result }
 {
@@ -32,21 +30,18 @@ pub(crate) fn run(
     while turn < cap {
         turn += 1;
         if c.queued == 0 {
-            return Turn::On(c);
+            return Ok(c);
         }
         let f = fronts::front(classes, intervals, work, cap, c);
         t = fronts::track(registers, fragments, t, f);
         let i = f.index;
         free[i] = fronts::free_row(free[i], registers, fragments, work, cap, f, t);
         let tried = settling::settle(mode, intervals, mentions, safepoints, work, cap, f, free[i]);
-        if let Tried::Taken(done) = tried {
-            match done {
-                Turn::On(next) => c = next,
-                Turn::Off(answer) => return Turn::Off(answer),
-            }
+        if let Some(taken) = tried {
+            c = taken?;
             continue;
         }
-        match settling::contend(
+        c = settling::contend(
             mode,
             instructions,
             classes,
@@ -59,10 +54,7 @@ pub(crate) fn run(
             cap,
             f,
             t,
-        ) {
-            Turn::On(next) => c = next,
-            Turn::Off(answer) => return Turn::Off(answer),
-        }
+        )?;
     }
-    Turn::On(c)
+    Ok(c)
 }

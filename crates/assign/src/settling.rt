@@ -1,6 +1,5 @@
 // Steps 2 to 5 for the popped record. Steps 2 and 3 are apart from step 4, which few pops come to: what it reads would be copied for each pop if it were passed through them.
-ghost use Rattle.std.specs.Prelude.{ℕ, ◌+◌, ◌≤◌};
-ghost use Rattle.rules.specs.declared.Choice.TheVariants.{AllBlocked};
+ghost use Rattle.std.specs.Prelude.{ℕ, ◌+◌, ◌≤◌, None};
 ghost use Rattle.rules.specs.Steps.{furthest};
 ghost use Rattle.choice.specs.Row.{pos_in};
 ghost use Rattle.store.specs.StateOf.{state_of};
@@ -10,9 +9,9 @@ ghost use Rattle.assign.specs.Looping.{Takes, Looking, Past, Finishing, Finished
 use crate::Front;
 use activity::Tracker;
 use choice::positions;
-use rules::{Mode, Pos, Strategy};
-use split::Turn;
-use steps::{Tried, allocate, blocked};
+use rules::{Mode, Pos, Refusal, Strategy};
+use steps::{allocate, blocked};
+use store::Counts;
 
 // The furthest register of the row is tried.
 fn take(
@@ -23,10 +22,10 @@ fn take(
     cap: usize,
     f: Front,
     row: [Pos; 64],
-) -> Tried
+) -> Option<Result<Counts, Refusal>>
     requires parting { Parting cap mentions.now safepoints.now work.old f.counts f.record }
     requires count_bound { f.class.first + f.class.count ≤ 64 }
-    ensures { Tries cap mode mentions.now safepoints.now work.old work.new f.counts f.record (furthest (pos_in row) f.class.scratch f.class.first f.class.count AllBlocked) result }
+    ensures { Tries cap mode mentions.now safepoints.now work.old work.new f.counts f.record (furthest (pos_in row) f.class.scratch f.class.first f.class.count None) result }
 {
     let counts = f.counts;
     let class = f.class;
@@ -50,27 +49,25 @@ fn finish(
     work: &mut [u32],
     cap: usize,
     k: usize,
-    taken: Turn,
-) -> Turn
+    taken: Result<Counts, Refusal>,
+) -> Result<Counts, Refusal>
     requires { Finishing cap intervals.now mentions.now safepoints.now work.old k taken }
     ensures { Finished cap strategy intervals.now mentions.now safepoints.now work.old work.new k taken result }
 {
-    match taken {
-        Turn::On(after) => safepoints::maybe_handle_safepoints(
-            strategy, intervals, mentions, safepoints, work, cap, after, k,
-        ),
-        Turn::Off(answer) => Turn::Off(answer),
-    }
+    let after = taken?;
+    safepoints::maybe_handle_safepoints(
+        strategy, intervals, mentions, safepoints, work, cap, after, k,
+    )
 }
 
 // Nothing is left for step 5 to do.
-fn past(intervals: &[u32], work: &[u32], cap: usize, k: usize, taken: Turn) -> bool
+fn past(intervals: &[u32], work: &[u32], cap: usize, k: usize, taken: Result<Counts, Refusal>) -> bool
     requires { Looking cap intervals.now work.now k taken }
     ensures { Past cap intervals.now work.now k taken result }
 {
     match taken {
-        Turn::On(after) => !safepoints::looks_at(intervals, work, cap, after, k),
-        Turn::Off(_) => true,
+        Ok(after) => !safepoints::looks_at(intervals, work, cap, after, k),
+        Err(_) => true,
     }
 }
 
@@ -84,22 +81,18 @@ pub(crate) fn settle(
     cap: usize,
     f: Front,
     row: [Pos; 64],
-) -> Tried
+) -> Option<Result<Counts, Refusal>>
     requires { Takes cap intervals.now mentions.now safepoints.now work.old f }
     ensures { Settling cap mode intervals.now mentions.now safepoints.now work.old work.new f row result }
 {
-    let tried = take(mode, mentions, safepoints, work, cap, f, row);
-    let Tried::Taken(taken) = tried else {
-        return Tried::Blocked;
-    };
+    let taken = take(mode, mentions, safepoints, work, cap, f, row)?;
     let k = f.record;
     // asked here, so that most pops go on without a call
     if past(intervals, work, cap, k, taken) {
-        return Tried::Taken(taken);
+        return Some(taken);
     }
-    let strategy = mode.strategy;
-    Tried::Taken(finish(
-        strategy, intervals, mentions, safepoints, work, cap, k, taken,
+    Some(finish(
+        mode.strategy, intervals, mentions, safepoints, work, cap, k, taken,
     ))
 }
 
@@ -117,7 +110,7 @@ pub(crate) fn contend(
     cap: usize,
     f: Front,
     tracker: Tracker,
-) -> Turn
+) -> Result<Counts, Refusal>
     requires { Stepping cap classes.now registers.now fragments.now intervals.now mentions.now safepoints.now work.old f.counts tracker f.record }
     ensures { Did cap mentions.now safepoints.now work.old work.new f.counts result (contended (stepping instructions mode classes.now registers.now fragments.now intervals.now mentions.now safepoints.now cap) (state_of cap work.old f.counts) f.record) }
 {
@@ -138,8 +131,7 @@ pub(crate) fn contend(
         tracker,
         k,
     );
-    let strategy = mode.strategy;
     finish(
-        strategy, intervals, mentions, safepoints, work, cap, k, taken,
+        mode.strategy, intervals, mentions, safepoints, work, cap, k, taken,
     )
 }

@@ -1,5 +1,7 @@
 -- The verdict, rule by rule, and the answer that it gives.
 -- Assumes nothing.
+use Rattle.rules.specs.Answers.{fine, Answer, Check}
+use Rattle.std.specs.Prelude.{Ok, Err}
 use Prim.Native.Nat.{ℕ, ◌+◌, ◌*◌, ◌<◌, ◌≤◌}
 use mathlib.Core.Path.{◌≡◌, refl, sym, ◌∙◌}
 use mathlib.Core.Bool.{Bool, true, false, not}
@@ -7,10 +9,8 @@ use borrow.Author.Tests.{not-true, not-false, lt-ltb, le-ltb}
 use native.Mathlib.Omega.{arith}
 use native.Mathlib.Decide.{dec_lt}
 use lib.ListN.{length}
-use Rattle.rules.specs.declared.Answer.{Answer}
-use Rattle.rules.specs.declared.Answer.TheVariants.{OverLimit}
-use Rattle.rules.specs.declared.Check.{Check}
-use Rattle.rules.specs.declared.Check.TheVariants.{Fine, Refused}
+use Rattle.rules.specs.declared.Refusal.{Refusal}
+use Rattle.rules.specs.declared.Refusal.TheVariants.{OverLimit}
 use Rattle.rules.specs.Tables.{Tables}
 use Rattle.rules.specs.Sound.{check_tables}
 use Rattle.rules.specs.Placement.{Claim, Rule}
@@ -82,14 +82,14 @@ module _ (T : Tables) (c : Claim) where
     unfolding check_all check_claim
     by_tables = simp (le-ltb 16384 c.count f, le-ltb (length c.words) (c.count * 2) t)
 
-    pub tables_refused : (k : Check) (a : Answer) → k ≡ check_tables T → k ≡ Refused a → Checks T c a
+    pub tables_refused : (k : Check) (a : Refusal) → k ≡ check_tables T → k ≡ Err a → Checks T c (Err a)
     tables_refused k a e q = refused a (by_tables ∙ sym e ∙ q)
 
     -- and the rules, where these are sound
-    pub answered : (k : Check) (v : Verdict) (r : Answer) → k ≡ check_tables T → k ≡ Fine → Judges T c v → r ≡ answer_of v c.count c.total → Checks T c r
+    pub answered : (k : Check) (v : Verdict) (r : Answer) → k ≡ check_tables T → k ≡ fine → Judges T c v → r ≡ answer_of v c.count c.total → Checks T c r
     answered k v r e q j a = rw a (go v j)
       where
-        fine : check_all T c ≡ Fine
+        fine : check_all T c ≡ fine
         fine = by_tables ∙ sym e ∙ q
 
         go : (v : Verdict) → Judges T c v → Checks T c (answer_of v c.count c.total)

@@ -169,11 +169,11 @@ pub fn check(
     ensures { Checks (tables instructions classes.now registers.now fragments.now intervals.now mentions.now safepoints.now) (claim words.now count total) result }
 {
     if MOST_RECORDS < count {
-        return Answer::OverLimit;
+        return Err(Refusal::OverLimit);
     }
     let records = count as usize;
     if words.len() < records * RECORD_WORDS {
-        return Answer::OverLimit;
+        return Err(Refusal::OverLimit);
     }
     let checked = check::check_tables(
         instructions,
@@ -185,10 +185,10 @@ pub fn check(
         safepoints,
     );
     match checked {
-        Check::Refused(a) => {
+        Err(a) => {
             return a;
         }
-        Check::Fine => {
+        Ok(()) => {
             let verdict = judge(
                 instructions,
                 classes,

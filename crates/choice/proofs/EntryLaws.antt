@@ -8,10 +8,10 @@ use native.Mathlib.Numerals.{add-one}
 use lib.ListN.{get_or}
 use Rattle.words.proofs.Fold.{one_less, none_left}
 use Rattle.rules.specs.declared.Pos.{Pos}
-use Rattle.rules.specs.declared.Choice.{Choice}
-use Rattle.rules.specs.declared.Choice.TheVariants.{AllBlocked}
+use Rattle.rules.specs.Steps.{Choice}
+use Rattle.std.specs.Prelude.{None, Some}
 use Rattle.rules.specs.Steps.{furthest, pos_of}
-use Rattle.choice.specs.declared.RegPos.{RegPos}
+use Rattle.rules.specs.declared.RegPos.{RegPos}
 use Rattle.choice.specs.Row.{pos_in, better, nearer_of, is_never, no_entry, entry_at, furthest_entry}
 use Rattle.choice.proofs.FurthestLaws.{Weighed, weighed_first, weighed_next, Scanned, scanned_never}
 
@@ -23,7 +23,7 @@ pub reading_starts : (es : List RegPos) (scratch count : ℕ) (start : Choice) �
 reading_starts es scratch count start = record { is = let e : count - 0 ≡ count = omega arith in rw e }
 
 module _ {es : List RegPos} {scratch count : ℕ} {start best : Choice} {i : ℕ} (s : Reading es scratch count start best i) where
-  pub reading_more : (best' : Choice) → best' ≡ better scratch best (get_or es i no_entry).reg (get_or es i no_entry).pos → i < count → Reading es scratch count start best' (i + 1)
+  pub reading_more : (best' : Choice) → best' ≡ better scratch best (get_or es i no_entry).register (get_or es i no_entry).pos → i < count → Reading es scratch count start best' (i + 1)
   unfolding furthest_entry
   reading_more best' e h = record { is = rw e (sym (rw (one_less i count h, add-one i)) ∙ s.is) }
 
@@ -39,9 +39,9 @@ module _ (row : List Pos) (scratch first count stop r : ℕ) (best : Choice) (s 
   pub scanned_more : Scanned row scratch first count stop (r + 4) best'
   unfolding furthest_entry
   scanned_more =
-      let w : Weighed (pos_in row) scratch stop (furthest (pos_in row) scratch first count AllBlocked) (r + 1) (better scratch best r (pos_in row r)) = weighed_first (pos_in row) scratch stop r best _ h s.is in
+      let w : Weighed (pos_in row) scratch stop (furthest (pos_in row) scratch first count None) (r + 1) (better scratch best r (pos_in row r)) = weighed_first (pos_in row) scratch stop r best _ h s.is in
       record { is = rw e (weighed_next (weighed_next (weighed_next w r1 e1 (r + 2) (omega arith)) r2 e2 (r + 3) (omega arith)) r3 e3 (r + 4) (omega arith)).is }
 
   -- and to its end, where the best is never
-  pub scanned_stops : (t : Bool) → t ≡ is_never (pos_of best') → t ≡ true → best' ≡ furthest (pos_in row) scratch first count AllBlocked
+  pub scanned_stops : (t : Bool) → t ≡ is_never (pos_of best') → t ≡ true → best' ≡ furthest (pos_in row) scratch first count None
   scanned_stops t f g = scanned_never scanned_more t f g

@@ -11,10 +11,10 @@ use Rattle.words.specs.Choose.{choose}
 use Rattle.words.proofs.Fold.{one_less, none_left}
 use Rattle.rules.specs.declared.Pos.{Pos}
 use Rattle.rules.specs.declared.Pos.TheVariants.{Blocked, At, Never}
-use Rattle.rules.specs.declared.Choice.{Choice}
-use Rattle.rules.specs.declared.Choice.TheVariants.{AllBlocked, Take}
+use Rattle.rules.specs.Steps.{Choice}
+use Rattle.std.specs.Prelude.{None, Some}
 use Rattle.rules.specs.Positions.{below}
-use Rattle.rules.specs.Steps.{furthest, pos_of}
+use Rattle.rules.specs.Steps.{offer, furthest, pos_of}
 use Rattle.choice.specs.Row.{pos_in, better, nearer_of, is_never}
 
 -- positions that agree on the registers other than scratch have the same furthest
@@ -40,7 +40,7 @@ better_twice : (scratch : ℕ) (best : Choice) (r : ℕ) (p : Pos) → better sc
 unfolding better
 better_twice scratch best r p = go (ℕ_discrete r scratch)
   where
-    at : (b : Bool) → below (pos_of best) p ≡ b → choose (below (pos_of (choose b (Take r p) best)) p) (Take r p) (choose b (Take r p) best) ≡ choose b (Take r p) best
+    at : (b : Bool) → below (pos_of best) p ≡ b → choose (below (pos_of (choose b (offer r p) best)) p) (offer r p) (choose b (offer r p) best) ≡ choose b (offer r p) best
     at true e = simp (below_same p)
     at false e = simp e
 
@@ -107,16 +107,16 @@ weighed_next {pos} {scratch} {stop} {r} {whole} {best} w a e s f = rw f (go (dec
 
 -- what is left of the scan from r on, with the best so far, is the whole scan
 pub record Scanned (row : List Pos) (scratch first count stop r : ℕ) (best : Choice) : Type 0 where
-  pub is : furthest (pos_in row) scratch r (stop - r) best ≡ furthest (pos_in row) scratch first count AllBlocked
+  pub is : furthest (pos_in row) scratch r (stop - r) best ≡ furthest (pos_in row) scratch first count None
 
-pub scanned_starts : (row : List Pos) (scratch first count : ℕ) → Scanned row scratch first count (first + count) first AllBlocked
+pub scanned_starts : (row : List Pos) (scratch first count : ℕ) → Scanned row scratch first count (first + count) first None
 scanned_starts row scratch first count = record { is = let e : first + count - first ≡ count = omega arith in rw e }
 
 module _ {row : List Pos} {scratch first count stop r : ℕ} {best : Choice} (s : Scanned row scratch first count stop r best) where
-  pub scanned_ends : stop ≤ r → best ≡ furthest (pos_in row) scratch first count AllBlocked
+  pub scanned_ends : stop ≤ r → best ≡ furthest (pos_in row) scratch first count None
   scanned_ends h = sym (no_more (pos_in row) scratch stop r best h) ∙ s.is
 
-  pub scanned_never : (t : Bool) → t ≡ is_never (pos_of best) → t ≡ true → best ≡ furthest (pos_in row) scratch first count AllBlocked
+  pub scanned_never : (t : Bool) → t ≡ is_never (pos_of best) → t ≡ true → best ≡ furthest (pos_in row) scratch first count None
   scanned_never t e f = sym (furthest_never (pos_in row) scratch (stop - r) r best (is_never_lem (pos_of best) (sym e ∙ f))) ∙ s.is
     where
       is_never_lem : (p : Pos) → is_never p ≡ true → p ≡ Never

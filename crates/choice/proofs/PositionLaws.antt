@@ -1,14 +1,16 @@
 -- Positions compared, and one register weighed against the best. Assumes nothing.
 use Prim.Native.Nat.{ℕ, ◌≤◌, ◌<◌}
-use mathlib.Core.Path.{◌≡◌, sym}
+use mathlib.Core.Path.{◌≡◌, refl}
 use mathlib.Core.Bool.{Bool, true, false}
 use lib.Dec.{ltb}
 use borrow.Author.Tests.{le-leb, lt-leb, eq-eqb, ne_eqb}
 use Rattle.rules.specs.declared.Pos.{Pos}
 use Rattle.rules.specs.declared.Pos.TheVariants.{Blocked, At, Never}
-use Rattle.rules.specs.declared.Choice.{Choice}
-use Rattle.rules.specs.declared.Choice.TheVariants.{AllBlocked, Take}
+use Rattle.rules.specs.Steps.{Choice}
+use Rattle.std.specs.Prelude.{None, Some}
 use Rattle.rules.specs.Positions.{below, lower_of}
+use Rattle.rules.specs.declared.RegPos.{RegPos}
+use Rattle.rules.specs.Steps.{pos_of}
 use Rattle.choice.specs.Row.{better}
 
 -- of two points, the test of the points
@@ -33,21 +35,12 @@ module _ (best : Choice) (r : ℕ) (p : Pos) (scratch : ℕ) where
   unfolding better
   never_scratch e = simp (eq-eqb r scratch e)
 
-  module _ (n : r ≡ scratch → ⊥) (t : Bool) where
-    -- a register above blocked is the first choice
-    pub first_choice : best ≡ AllBlocked → t ≡ below Blocked p → t ≡ true → Take r p ≡ better scratch best r p
+  -- one strictly above the best takes its place
+  module _ (n : r ≡ scratch → ⊥) (q : Pos) (f : q ≡ pos_of best) (t : Bool) (g : t ≡ below q p) where
+    pub better_choice : (e : RegPos) → e.register ≡ r → e.pos ≡ p → t ≡ true → Some e ≡ better scratch best r p
     unfolding better
-    first_choice e f g = simp (e, ne_eqb r scratch n, sym f, g)
+    better_choice e i j h = rw (ne_eqb r scratch n, ← f, ← g, h, ← i, ← j) refl
 
-    pub no_choice : best ≡ AllBlocked → t ≡ below Blocked p → t ≡ false → AllBlocked ≡ better scratch best r p
+    pub same_choice : t ≡ false → best ≡ better scratch best r p
     unfolding better
-    no_choice e f g = simp (e, ne_eqb r scratch n, sym f, g)
-
-    -- one strictly above the best takes its place
-    pub better_choice : (s : ℕ) (q : Pos) → best ≡ Take s q → t ≡ below q p → t ≡ true → Take r p ≡ better scratch best r p
-    unfolding better
-    better_choice s q e f g = simp (e, ne_eqb r scratch n, sym f, g)
-
-    pub same_choice : (s : ℕ) (q : Pos) → best ≡ Take s q → t ≡ below q p → t ≡ false → Take s q ≡ better scratch best r p
-    unfolding better
-    same_choice s q e f g = simp (e, ne_eqb r scratch n, sym f, g)
+    same_choice h = rw (ne_eqb r scratch n, ← f, ← g, h) refl

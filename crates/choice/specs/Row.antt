@@ -4,12 +4,12 @@ use Rattle.words.specs.Choose.{choose}
 use Rattle.words.specs.Packed.{register_at, part}
 use Rattle.rules.specs.declared.Pos.{Pos}
 use Rattle.rules.specs.declared.Pos.TheVariants.{Blocked, At, Never}
-use Rattle.rules.specs.declared.Choice.{Choice}
-use Rattle.rules.specs.declared.Choice.TheVariants.{Take}
+use Rattle.rules.specs.Steps.{Choice}
+use Rattle.std.specs.Prelude.{None, Some}
 use Rattle.rules.specs.Positions.{below}
-use Rattle.rules.specs.Steps.{pos_of}
+use Rattle.rules.specs.Steps.{pos_of, offer}
 use Rattle.activity.specs.Fixed.{fixed_pos}
-use Rattle.choice.specs.declared.RegPos.{RegPos}
+use Rattle.rules.specs.declared.RegPos.{RegPos}
 
 -- the position of register r in a row
 abbrev pub pos_in : List Pos → ℕ → Pos
@@ -17,20 +17,20 @@ pos_in row r = get_or row r Blocked
 
 -- register r at position p, where it lies above the best so far and is not scratch
 unfoldable pub better : ℕ → Choice → ℕ → Pos → Choice
-better scratch best r p = choose (not (eqb r scratch) && below (pos_of best) p) (Take r p) best
+better scratch best r p = choose (not (eqb r scratch) && below (pos_of best) p) (offer r p) best
 
 -- the entry that no register has
 abbrev pub no_entry : RegPos
-no_entry = record { reg = 0; pos = Blocked }
+no_entry = record { register = 0; pos = Blocked }
 
 -- register r of a row, with its position
 abbrev pub entry_at : List Pos → ℕ → RegPos
-entry_at row r = record { reg = r; pos = pos_in row r }
+entry_at row r = record { register = r; pos = pos_in row r }
 
 -- the furthest of n entries from i on, the first of them on ties, never scratch, and the best so far
 unfoldable pub furthest_entry : List RegPos → ℕ → ℕ → ℕ → Choice → Choice
 furthest_entry es scratch i zero best = best
-furthest_entry es scratch i (suc n) best = furthest_entry es scratch (suc i) n (better scratch best (get_or es i no_entry).reg (get_or es i no_entry).pos)
+furthest_entry es scratch i (suc n) best = furthest_entry es scratch (suc i) n (better scratch best (get_or es i no_entry).register (get_or es i no_entry).pos)
 
 -- the nearer of two registers
 abbrev pub nearer_of : ℕ → ℕ → ℕ

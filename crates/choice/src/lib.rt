@@ -1,7 +1,6 @@
 // The choice of a register: positions by register, as arrays by value, one row for each class, and the furthest of a row, looked for over a lent slice.
 #![tactic(auto)]
 
-use rules::Pos;
 
 pub mod held;
 pub mod positions;
@@ -10,9 +9,3 @@ pub mod rows;
 // Limits: 8 classes.
 pub const CLASSES: usize = 8;
 
-// A register and its position.
-#[derive(Clone, Copy)]
-pub struct RegPos {
-    pub reg: u16,
-    pub pos: Pos,
-}

@@ -1,13 +1,11 @@
 // Positions compared, and the furthest register of a row.
-ghost use Rattle.std.specs.Prelude.{◌≡◌, ℕ, ◌+◌, ◌<◌, ◌≤◌, length};
-ghost use Rattle.rules.specs.declared.Choice.TheVariants.{AllBlocked};
+ghost use Rattle.std.specs.Prelude.{◌≡◌, ℕ, ◌+◌, ◌<◌, ◌≤◌, length, None};
 ghost use Rattle.rules.specs.Positions.{below, lower_of};
 ghost use Rattle.rules.specs.Steps.{furthest, pos_of};
 ghost use Rattle.choice.specs.Row.{better, furthest_entry, is_never, nearer_of, pos_in};
 
-use crate::RegPos;
 use activity::REGISTERS;
-use rules::{Choice, Pos};
+use rules::{Pos, RegPos};
 
 pub fn below_of(a: Pos, b: Pos) -> bool
     ensures { result ≡ below a b }
@@ -41,40 +39,32 @@ pub fn lower_of(a: Pos, b: Pos) -> Pos
     }
 }
 
-// The register of `e`, where its position lies above the best so far and it is not scratch.
-fn better_of(best: Choice, e: RegPos, scratch: usize) -> Choice
-    ensures { result ≡ better scratch best e.reg e.pos }
+// The position of the best so far: blocked, where there is none.
+fn pos_of(best: Option<RegPos>) -> Pos
+    ensures { result ≡ pos_of best }
 {
-    let p = e.pos;
-    let r = e.reg as usize;
-    if r == scratch {
+    match best {
+        None => Pos::Blocked,
+        Some(e) => e.pos,
+    }
+}
+
+// The register of `e`, where its position lies above the best so far and it is not scratch.
+fn better_of(best: Option<RegPos>, e: RegPos, scratch: usize) -> Option<RegPos>
+    ensures { result ≡ better scratch best e.register e.pos }
+{
+    if e.register as usize == scratch {
         return best;
     }
-    match best {
-        Choice::AllBlocked => if below_of(Pos::Blocked, p) {
-            Choice::Take {
-                register: e.reg,
-                pos: p,
-            }
-        } else {
-            Choice::AllBlocked
-        },
-        Choice::Take { register, pos } => if below_of(pos, p) {
-            Choice::Take {
-                register: e.reg,
-                pos: p,
-            }
-        } else {
-            Choice::Take {
-                register: register,
-                pos: pos,
-            }
-        },
+    if below_of(pos_of(best), e.pos) {
+        Some(e)
+    } else {
+        best
     }
 }
 
 // The furthest of a lent slice and the best so far, the first of them on ties, never scratch.
-fn furthest_in(s: &[RegPos], scratch: usize, start: Choice) -> Choice
+fn furthest_in(s: &[RegPos], scratch: usize, start: Option<RegPos>) -> Option<RegPos>
     ensures { result ≡ furthest_entry s.now scratch 0 (length s.now) start }
 {
     let mut best = start;
@@ -87,7 +77,7 @@ fn furthest_in(s: &[RegPos], scratch: usize, start: Choice) -> Choice
 }
 
 // By value: the entries are lent to `furthest_in`.
-fn furthest_lent(entries: [RegPos; 4], scratch: usize, start: Choice) -> Choice
+fn furthest_lent(entries: [RegPos; 4], scratch: usize, start: Option<RegPos>) -> Option<RegPos>
     ensures { result ≡ furthest_entry entries scratch 0 4 start }
 {
     furthest_in(&entries, scratch, start)
@@ -102,26 +92,19 @@ fn nearer(a: usize, b: usize) -> usize
 }
 
 // Nothing lies above never.
-fn is_never(c: Choice) -> bool
+fn is_never(c: Option<RegPos>) -> bool
     ensures { result ≡ is_never (pos_of c) }
 {
-    match c {
-        Choice::AllBlocked => false,
-        Choice::Take { register: _, pos } => match pos {
-            Pos::Blocked => false,
-            Pos::At(_) => false,
-            Pos::Never => true,
-        },
-    }
+    matches!(pos_of(c), Pos::Never)
 }
 
 // The furthest of a class's registers, the lowest of them on ties, never scratch.
 // Four at a time: past the last register the last one stands again, which changes nothing.
-pub fn furthest_of(row: [Pos; REGISTERS], first: usize, count: usize, scratch: usize) -> Choice
+pub fn furthest_of(row: [Pos; REGISTERS], first: usize, count: usize, scratch: usize) -> Option<RegPos>
     requires { first + count ≤ 64 }
-    ensures { result ≡ furthest (pos_in row) scratch first count AllBlocked }
+    ensures { result ≡ furthest (pos_in row) scratch first count None }
 {
-    let mut best = Choice::AllBlocked;
+    let mut best = None;
     let stop = first + count;
     let mut r = first;
     while r < stop {
@@ -131,19 +114,19 @@ pub fn furthest_of(row: [Pos; REGISTERS], first: usize, count: usize, scratch: u
         let r3 = nearer(r + 3, last);
         let entries = [
             RegPos {
-                reg: r as u16,
+                register: r as u16,
                 pos: row[r],
             },
             RegPos {
-                reg: r1 as u16,
+                register: r1 as u16,
                 pos: row[r1],
             },
             RegPos {
-                reg: r2 as u16,
+                register: r2 as u16,
                 pos: row[r2],
             },
             RegPos {
-                reg: r3 as u16,
+                register: r3 as u16,
                 pos: row[r3],
             },
         ];

@@ -1,6 +1,6 @@
 -- The checks 3 to 8 give sound tables: what passes them is Accepted.
 -- Assumes nothing.
-use Rattle.std.specs.Prelude.{None}
+use Rattle.std.specs.Prelude.{None, Ok, Err}
 use Prim.Native.Nat.{ℕ, ◌+◌, ◌-◌, ◌*◌, ◌%◌, ◌≤◌, ◌<◌}
 use mathlib.Core.Path.{◌≡◌, refl}
 use mathlib.Core.Bool.{Bool, true, false, ◌&&◌, ◌||◌, not}
@@ -16,9 +16,8 @@ use Rattle.words.specs.declared.Class.{Class}
 use Rattle.words.specs.declared.Range.{Range}
 use Rattle.words.specs.declared.Interval.{Interval}
 use Rattle.words.specs.declared.Mention.{Mention}
-use Rattle.rules.specs.declared.Answer.TheVariants.{OverLimit, BadClass, BadInterval, BadMention, BadSafepoint, BadFixed}
-use Rattle.rules.specs.declared.Check.{Check}
-use Rattle.rules.specs.declared.Check.TheVariants.{Fine, Refused}
+use Rattle.rules.specs.declared.Refusal.TheVariants.{OverLimit, BadClass, BadInterval, BadMention, BadSafepoint, BadFixed}
+use Rattle.rules.specs.Answers.{fine, Check}
 use Rattle.rules.specs.Tables.{Tables}
 use Rattle.rules.specs.Uses.{at_def, points_in}
 use Rattle.rules.specs.Sound.{every, and_then, refuse_at, in_limits, check_limits, count_sum, scratch_good, class_good, bad_class, interval_good, bad_interval, ascends, mention_good, bad_mention, not_used_alone, safepoint_good, bad_safepoint, fragments_good, register_good, bad_fixed, check_tables}
@@ -28,7 +27,7 @@ use Rattle.rules.proofs.AcceptedLaws.{and_left, and_right, then_left, then_right
 -- a test that holds gives each of its parts
 ruleset parts = (and_left, and_right, leb-true, ltb-true, eqb-true)
 
-limits_true : (b : Bool) → choose b Fine (Refused OverLimit) ≡ Fine → b ≡ true
+limits_true : (b : Bool) → choose b fine (Err OverLimit) ≡ fine → b ≡ true
 limits_true true e = refl
 limits_true false e = cc
 
@@ -169,14 +168,14 @@ module _ (T : Tables) where
 
 -- each of the six checks passed
 pub record Passes (T : Tables) : Type 0 where
-  pub limits : check_limits T ≡ Fine
+  pub limits : check_limits T ≡ fine
   pub class : bad_class T ≡ None
   pub interval : bad_interval T ≡ None
   pub mention : bad_mention T ≡ None
   pub safepoint : bad_safepoint T ≡ None
   pub fixed : bad_fixed T ≡ None
 
-pub passes : (T : Tables) → check_tables T ≡ Fine → Passes T
+pub passes : (T : Tables) → check_tables T ≡ fine → Passes T
 unfolding check_tables
 passes T e =
     let fixed : Check = refuse_at BadFixed (bad_fixed T) in
@@ -224,7 +223,7 @@ unfolding bad_fixed
 register_good_lem T e r h = first_good (register_good T) 0 (length T.registers) (else_left _ _ e) r (omega arith) (omega arith)
 
 -- what each check gives
-pub limits_kept : (T : Tables) → check_limits T ≡ Fine → Limits T
+pub limits_kept : (T : Tables) → check_limits T ≡ fine → Limits T
 unfolding check_limits
 limits_kept T e = limits_sound T (limits_true (in_limits T) e)
 
@@ -235,7 +234,7 @@ pub mentions_kept : (T : Tables) → bad_mention T ≡ None → (v : ℕ) → v 
 mentions_kept T e v h = mentions_sound T (interval T v) (mention_good_lem T e v h)
 
 -- Document 01, "Sound": tables that pass the checks 3 to 8 are sound.
-pub accepted : (T : Tables) → check_tables T ≡ Fine → Accepted T
+pub accepted : (T : Tables) → check_tables T ≡ fine → Accepted T
 accepted T e =
     let p : Passes T = passes T e in
     record {

@@ -1,6 +1,6 @@
 -- Laws of the walks that the checks at entry make: a clean walk is clean at each of its entries.
 -- Assumes nothing.
-use Rattle.std.specs.Prelude.{Option, None, Some}
+use Rattle.std.specs.Prelude.{Option, None, Some, Ok, Err}
 use Prim.Native.Nat.{ℕ, zero, suc, ◌+◌, ◌-◌, ◌≤◌, ◌<◌}
 use mathlib.Core.Path.{◌≡◌, refl, ap, ◌∙◌}
 use mathlib.Core.Bool.{Bool, true, false, ◌&&◌, ◌||◌}
@@ -15,9 +15,8 @@ use lib.Dec.{ltb, leb}
 use borrow.Author.Tests.{ltb-true, leb-true}
 use Rattle.words.specs.declared.Range.{Range}
 use Rattle.words.specs.Packed.{class_in, fragment_in, part}
-use Rattle.rules.specs.declared.Answer.{Answer}
-use Rattle.rules.specs.declared.Check.{Check}
-use Rattle.rules.specs.declared.Check.TheVariants.{Fine, Refused}
+use Rattle.rules.specs.declared.Refusal.{Refusal}
+use Rattle.rules.specs.Answers.{fine, Check}
 use Rattle.rules.specs.Sound.{or_else, first, bad_unless, every, and_then, refuse_at, count_sum, ascends, ends_before, fragments_good}
 use Rattle.rules.specs.Accepted.{InRange}
 
@@ -36,15 +35,15 @@ or_either true b e = inl refl
 or_either false b e = inr e
 
 -- both of two checks
-pub then_left : (a b : Check) → and_then a b ≡ Fine → a ≡ Fine
-then_left Fine b e = refl
-then_left (Refused x) b e = e
+pub then_left : (a b : Check) → and_then a b ≡ fine → a ≡ fine
+then_left (Ok u) b e = refl
+then_left (Err x) b e = e
 
-pub then_right : (a b : Check) → and_then a b ≡ Fine → b ≡ Fine
-then_right Fine b e = e
-then_right (Refused x) b e = cc
+pub then_right : (a b : Check) → and_then a b ≡ fine → b ≡ fine
+then_right (Ok u) b e = e
+then_right (Err x) b e = cc
 
-pub refuse_fine : (a : ℕ → Answer) (f : Option ℕ) → refuse_at a f ≡ Fine → f ≡ None
+pub refuse_fine : (a : ℕ → Refusal) (f : Option ℕ) → refuse_at a f ≡ fine → f ≡ None
 refuse_fine a None e = refl
 refuse_fine a (Some k) e = cc
 

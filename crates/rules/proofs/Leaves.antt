@@ -1,6 +1,6 @@
 -- What a call leaves, by its answer's number: the result area keeps its length and what lies past the capacity; 2 to 9 leave it as it was, 10 to 13 zero it.
 -- Assumes nothing.
-use Rattle.std.specs.Prelude.{Option, None, Some}
+use Rattle.std.specs.Prelude.{Option, None, Some, Ok, Err}
 use Prim.Native.Nat.{ℕ, ◌+◌, ◌-◌, ◌*◌, ◌≤◌}
 use mathlib.Core.Path.{◌≡◌, refl, sym, ap, ◌∙◌}
 use mathlib.Core.Bool.{Bool, true, false, ◌||◌}
@@ -13,27 +13,25 @@ use borrow.Author.Tests.{ltb-false}
 use Rattle.words.specs.Choose.{choose}
 use Rattle.words.specs.Packed.{interval_count, record_words}
 use Rattle.rules.specs.declared.Strategy.{Strategy}
-use Rattle.rules.specs.declared.Answer.{Answer}
-use Rattle.rules.specs.declared.Answer.TheVariants.{BadStrategy, OverLimit, BadClass, BadInterval, BadMention, BadSafepoint, BadFixed, NoRoom}
-use Rattle.rules.specs.declared.Check.{Check}
-use Rattle.rules.specs.declared.Check.TheVariants.{Fine, Refused}
+use Rattle.rules.specs.declared.Refusal.{Refusal}
+use Rattle.rules.specs.declared.Refusal.TheVariants.{BadStrategy, OverLimit, BadClass, BadInterval, BadMention, BadSafepoint, BadFixed, NoRoom}
+use Rattle.rules.specs.Answers.{fine, Check, number}
 use Rattle.rules.specs.declared.Mode.{Mode}
 use Rattle.rules.specs.declared.Options.{Options}
 use Rattle.rules.specs.declared.Piece.{Piece}
-use Rattle.rules.specs.Answers.{number}
 use Rattle.rules.specs.Tables.{Tables}
 use Rattle.rules.specs.Room.{capacity, work_needed, strategy_of, check_room}
 use Rattle.rules.specs.Sound.{and_then, refuse_at, in_limits, check_limits, bad_class, bad_interval, bad_mention, bad_safepoint, bad_fixed, check_tables}
 use Rattle.rules.specs.State.{Outcome, goes, stops}
-use Rattle.rules.specs.Call.{Result, pack_records, write_records, zero_records, finish, check, given, mode_of, run_for, assign_by, assign, unless_refused}
+use Rattle.rules.specs.Call.{Effect, pack_records, write_records, zero_records, finish, check, given, mode_of, run_for, assign_by, assign, unless_refused}
 use Rattle.rules.proofs.AcceptedLaws.{then_right}
 use Rattle.rules.proofs.Keeps.{All, on, off}
 use Rattle.rules.proofs.Runs.{Finished, run_done}
 
 -- a check at entry refuses with 3 to 9
 pub data AtEntry : Check → Type 0 where
-  passes : AtEntry Fine
-  refuses : (a : Answer) → 3 ≤ number a → number a ≤ 9 → AtEntry (Refused a)
+  passes : AtEntry fine
+  refuses : (a : Refusal) → 3 ≤ number (Err a) → number (Err a) ≤ 9 → AtEntry (Err a)
 
 entry_then : (a b : Check) → AtEntry a → AtEntry b → AtEntry (and_then a b)
 entry_then a b passes k = k
@@ -43,13 +41,13 @@ entry_choose : (b : Bool) (x y : Check) → AtEntry x → AtEntry y → AtEntry 
 entry_choose true x y h k = h
 entry_choose false x y h k = k
 
-entry_at : (a : ℕ → Answer) → ((k : ℕ) → (3 ≤ number (a k)) × (number (a k) ≤ 9)) → (f : Option ℕ) → AtEntry (refuse_at a f)
+entry_at : (a : ℕ → Refusal) → ((k : ℕ) → (3 ≤ number (Err (a k))) × (number (Err (a k)) ≤ 9)) → (f : Option ℕ) → AtEntry (refuse_at a f)
 entry_at a h None = passes
 entry_at a h (Some k) = refuses (a k) (h k).0 (h k).1
 
 limits_entry : (T : Tables) → AtEntry (check_limits T)
 unfolding check_limits
-limits_entry T = entry_choose (in_limits T) Fine (Refused OverLimit) passes (refuses OverLimit (omega arith) (omega arith))
+limits_entry T = entry_choose (in_limits T) fine (Err OverLimit) passes (refuses OverLimit (omega arith) (omega arith))
 
 pub tables_entry : (T : Tables) → AtEntry (check_tables T)
 unfolding check_tables
@@ -63,22 +61,22 @@ tables_entry T =
 
 room_entry : (n cap work : ℕ) → AtEntry (check_room n cap work)
 unfolding check_room
-room_entry n cap work = entry_choose (ltb cap n || ltb work (work_needed cap)) (Refused NoRoom) Fine (refuses NoRoom (omega arith) (omega arith)) passes
+room_entry n cap work = entry_choose (ltb cap n || ltb work (work_needed cap)) (Err NoRoom) fine (refuses NoRoom (omega arith) (omega arith)) passes
 
 pub check_entry : (T : Tables) (cap work : ℕ) → AtEntry (check T cap work)
 unfolding check
 check_entry T cap work = entry_then (check_tables T) _ (tables_entry T) (room_entry _ cap work)
 
 -- 9 passed: the intervals are within the capacity
-room_fine : (n cap work : ℕ) → check_room n cap work ≡ Fine → n ≤ cap
+room_fine : (n cap work : ℕ) → check_room n cap work ≡ fine → n ≤ cap
 unfolding check_room
 room_fine n cap work e = go (ltb cap n) refl
   where
     go : (b : Bool) → ltb cap n ≡ b → n ≤ cap
-    go true t = let f : Refused NoRoom ≡ Fine = simp t at e in let z : ◌≡◌ {A = ℕ} 0 1 = cc in absurd (omega arith)
+    go true t = let f : Err NoRoom ≡ fine = simp t at e in let z : ◌≡◌ {A = ℕ} 0 1 = cc in absurd (omega arith)
     go false t = ltb-false cap n t
 
-pub check_room_lem : (T : Tables) (cap work : ℕ) → check T cap work ≡ Fine → interval_count T.intervals ≤ cap
+pub check_room_lem : (T : Tables) (cap work : ℕ) → check T cap work ≡ fine → interval_count T.intervals ≤ cap
 unfolding check
 check_room_lem T cap work e = room_fine _ _ work (then_right (check_tables T) _ e)
 
@@ -108,14 +106,14 @@ drop_zero : (out : List ℕ) → drop (capacity out * record_words) (zero_record
 drop_zero out = drop_at (replicate (capacity out * record_words) 0) _ (capacity out * record_words) (length-replicate _ _)
 
 -- what a result r leaves of the area out
-pub record Leaves (out : List ℕ) (r : Result) : Type 0 where
+pub record Leaves (out : List ℕ) (r : Effect) : Type 0 where
   pub long : length r.leaves ≡ length out
   pub past : drop (capacity out * record_words) r.leaves ≡ drop (capacity out * record_words) out
   pub known : number r.answer ≤ 13
   pub entry : 2 ≤ number r.answer → number r.answer ≤ 9 → r.leaves ≡ out
   pub during : 10 ≤ number r.answer → r.leaves ≡ zero_records out
 
-refused_leaves : (out : List ℕ) (a : Answer) → number a ≤ 9 → Leaves out (record { answer = a; leaves = out })
+refused_leaves : (out : List ℕ) (a : Refusal) → number (Err a) ≤ 9 → Leaves out (record { answer = Err a; leaves = out })
 refused_leaves out a h = record { long = refl; past = refl; known = omega arith; entry = λ l m. refl; during = λ l. absurd (omega arith) }
 
 finish_leaves : (m : Mode) (T : Tables) (out : List ℕ) (x : Outcome) → All (Finished (given m T (capacity out))) x → Leaves out (finish x out)
@@ -126,7 +124,7 @@ finish_leaves m T out x (off a d) =
     record { long = length_zero out; past = drop_zero out; known = d.most; entry = λ l n. absurd (omega (arith, d.least)); during = λ l. refl }
 
 -- the run of a call, where the checks passed, ends with an empty queue or with 10 to 13
-pub call_ends : (m : Mode) (T : Tables) (cap work : ℕ) → check T cap work ≡ Fine → All (Finished (given m T cap)) (run_for m T cap)
+pub call_ends : (m : Mode) (T : Tables) (cap work : ℕ) → check T cap work ≡ fine → All (Finished (given m T cap)) (run_for m T cap)
 unfolding run_for
 call_ends m T cap work e = run_done (given m T cap) T.intervals (check_room_lem T cap work e)
 
@@ -139,8 +137,8 @@ assign_leaves o T out work = by (strategy_of o.strategy)
     by (Some y) = go (check T (capacity out) work) refl (check_entry T (capacity out) work)
       where
         go : (k : Check) → check T (capacity out) work ≡ k → AtEntry k → Leaves out (unless_refused k out (finish (run_for (mode_of y o) T (capacity out)) out))
-        go Fine e h = finish_leaves (mode_of y o) T out _ (call_ends (mode_of y o) T (capacity out) work e)
-        go (Refused a) e (refuses b l n) = refused_leaves out a n
+        go (Ok u) e h = finish_leaves (mode_of y o) T out _ (call_ends (mode_of y o) T (capacity out) work e)
+        go (Err a) e (refuses b l n) = refused_leaves out a n
 
 -- the answer depends on the options, the tables and the two lengths alone
 pub answers_alone : (o : Options) (T : Tables) (out other : List ℕ) (work : ℕ) → length out ≡ length other → (assign o T out work).answer ≡ (assign o T other work).answer
@@ -155,8 +153,8 @@ answers_alone o T out other work e = by (strategy_of o.strategy)
     finishes (stops a) = refl
 
     checked : (k : Check) (x : Outcome) → (unless_refused k out (finish x out)).answer ≡ (unless_refused k other (finish x other)).answer
-    checked Fine x = finishes x
-    checked (Refused a) x = refl
+    checked (Ok u) x = finishes x
+    checked (Err a) x = refl
 
     by : (y : Option Strategy) → (assign_by o T out work y).answer ≡ (assign_by o T other work y).answer
     by None = refl

@@ -5,8 +5,8 @@ use mathlib.Core.Path.{◌≡◌, refl}
 use mathlib.Core.Bool.{true, false}
 use mathlib.Core.List.{List, [], ◌∷◌, ◌++◌, map}
 use lib.ListN.{replicate}
-use Rattle.rules.specs.declared.Answer.{Answer}
-use Rattle.rules.specs.declared.Answer.TheVariants.{BadStrategy, OverLimit, BadClass, BadInterval, BadMention, BadFixed, NoRoom, OutOfRegisters}
+use Rattle.rules.specs.declared.Refusal.{Refusal}
+use Rattle.rules.specs.declared.Refusal.TheVariants.{BadStrategy, OverLimit, BadClass, BadInterval, BadMention, BadFixed, NoRoom, OutOfRegisters}
 use Rattle.rules.specs.declared.Options.{Options}
 use Rattle.rules.specs.Tables.{Tables}
 use Rattle.rules.proofs.Cases.{Case, gives, wanted, plain, partial_on, one, alone, three, sevens, done, refuses}
@@ -39,7 +39,7 @@ picks n p =
     }
 
 -- A refusal at entry, of one or two intervals' room: the area is as it was
-abbrev refusal : Options → Tables → ℕ → Answer → Case
+abbrev refusal : Options → Tables → ℕ → Refusal → Case
 refusal o T work a = record { options = o; tables = T; area = sevens 5; work = work; wants = refuses a (sevens 5) }
 
 -- M2's tables, which are sound

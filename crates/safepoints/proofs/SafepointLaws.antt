@@ -1,6 +1,6 @@
 -- Step 5 in the work area is step 5 of `rules`, and leaves the area ready.
 -- Assumes nothing.
-use Rattle.std.specs.Prelude.{Option, None, Some}
+use Rattle.std.specs.Prelude.{Option, None, Some, Ok}
 use Prim.Native.Nat.{ℕ, ◌<◌}
 use mathlib.Core.Path.{◌≡◌, refl, sym, ap, ◌∙◌}
 use mathlib.Core.Bool.{Bool, true, false}
@@ -27,8 +27,7 @@ use Rattle.uses.specs.Safepoints.{head_of}
 use Rattle.uses.proofs.SafepointLaws.{first_missing, first_is, head_missing, head_is}
 use Rattle.store.specs.declared.Counts.{Counts}
 use Rattle.store.specs.StateOf.{state_of, Got}
-use Rattle.split.specs.declared.Turn.{Turn}
-use Rattle.split.specs.declared.Turn.TheVariants.{On}
+use Rattle.split.specs.Turns.{Turn}
 use Rattle.split.specs.Turns.{cutting, HeldOf, Does, Spilt, split_then_spill}
 use Rattle.split.proofs.SplitLaws.{got_fits}
 use Rattle.split.proofs.SpillLaws.{stays}
@@ -53,11 +52,11 @@ module _ (cap : ℕ) (is ms ss : List ℕ) where
     -- no use follows: the piece is spilled
     pub next_none : (ws' : List ℕ) (d : Counts) (p : ℕ) (x : Option ℕ) → HeldOf cap is ms ss ws c k → Got cap ws c k q
         → x ≡ next_use p (mention_points (part q.mentions ms)) → x ≡ None → Spilt cap is ws ws' c d k
-        → Does cap ms ss ws ws' c (On d) (spill_to_next (cutting From is ms ss cap) (state_of cap ws c) k p)
+        → Does cap ms ss ws ws' c (Ok d) (spill_to_next (cutting From is ms ss cap) (state_of cap ws c) k p)
     unfolding split_if_any
     next_none ws' d p x h g e n s =
         let e' : next_use p (mention_points (part q.mentions ms)) ≡ None = sym e ∙ n in
-        does_as cap ms ss ws ws' c (On d) (goes (spill (cutting From is ms ss cap) (state_of cap ws c) k)) _ (rw (← g.is, e')) (spilt_does cap is ms ss ws ws' c d k From h s)
+        does_as cap ms ss ws ws' c (Ok d) (goes (spill (cutting From is ms ss cap) (state_of cap ws c) k)) _ (rw (← g.is, e')) (spilt_does cap is ms ss ws ws' c d k From h s)
 
     -- a use follows: it is split there, and spilled
     pub next_some : (ws' : List ℕ) (p n : ℕ) (x : Option ℕ) (r : Turn) → Got cap ws c k q
@@ -80,7 +79,7 @@ module _ (cap : ℕ) (is ms ss : List ℕ) where
 
       -- the last use is the safepoint's definition: the piece is kept
       pub at_kept : (u : ℕ) → HeldOf cap is ms ss ws c k → Got cap ws c k q → def ≡ def_point x → z ≡ last_use def (mention_points (part q.mentions ms)) → z ≡ Some u
-          → u ≡ def → Does cap ms ss ws ws c (On c) (at_safepoint (cutting y is ms ss cap) (state_of cap ws c) k x)
+          → u ≡ def → Does cap ms ss ws ws c (Ok c) (at_safepoint (cutting y is ms ss cap) (state_of cap ws c) k x)
       unfolding keep_or_spill
       at_kept u h g f e m same =
           let e' : last_use (def_point x) (mention_points (part q.mentions ms)) ≡ Some u = sym (rw f at e) ∙ m in
@@ -98,7 +97,7 @@ module _ (cap : ℕ) (is ms ss : List ℕ) where
     module _ (y : Strategy) (z : Option ℕ) where
       -- there is no safepoint
       pub first_none : HeldOf cap is ms ss ws c k → Got cap ws c k q → z ≡ head_of (part q.safepoints ss) → z ≡ None
-          → Does cap ms ss ws ws c (On c) (at_first (cutting y is ms ss cap) (state_of cap ws c) k)
+          → Does cap ms ss ws ws c (Ok c) (at_first (cutting y is ms ss cap) (state_of cap ws c) k)
       unfolding first_safepoint
       first_none h g e n =
           stays cap ms ss ws c k _ (record { ready = h.ready; fit = h.fit; inside = h.inside }) (rw (← g.is, head_missing (part q.safepoints ss) (sym e ∙ n)))
@@ -142,7 +141,7 @@ module _ (cap : ℕ) (is ms ss ws : List ℕ) (c : Counts) (k : ℕ) (y : Strate
       does_as cap ms ss ws ws' c r (at_first (cutting y is ms ss cap) (state_of cap ws c) k) _ (sym (ap (λ (t : Bool). choose t (at_first (cutting y is ms ss cap) (state_of cap ws c) k) (goes (state_of cap ws c))) e')) d
 
   -- any other
-  pub passed : HeldOf cap is ms ss ws c k → b ≡ false → Does cap ms ss ws ws c (On c) (handle_safepoints (cutting y is ms ss cap) (state_of cap ws c) k)
+  pub passed : HeldOf cap is ms ss ws c k → b ≡ false → Does cap ms ss ws ws c (Ok c) (handle_safepoints (cutting y is ms ss cap) (state_of cap ws c) k)
   unfolding handle_safepoints
   passed h t =
       let e' : looking is (piece (state_of cap ws c) k) ≡ false = sym e ∙ t in

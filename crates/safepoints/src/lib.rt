@@ -10,8 +10,8 @@ ghost use Rattle.store.specs.StateOf.{Ready, state_of};
 ghost use Rattle.split.specs.Turns.{cutting, HeldOf, Does};
 ghost use Rattle.safepoints.specs.Safepoint.{looking, spill_to_next, at_safepoint, at_first};
 
-use rules::{Piece, Place, Strategy};
-use split::{Turn, spilling, spills};
+use rules::{Piece, Place, Refusal, Strategy};
+use split::{spilling, spills};
 use store::{Counts, state};
 use words::points;
 
@@ -47,14 +47,14 @@ fn spill_to_next(
     counts: Counts,
     k: usize,
     p: u16,
-) -> Turn
+) -> Result<Counts, Refusal>
     requires { HeldOf cap intervals.now mentions.now safepoints.now work.old counts k }
     ensures { Does cap mentions.now safepoints.now work.old work.new counts result (spill_to_next (cutting From intervals.now mentions.now safepoints.now cap) (state_of cap work.old counts) k p) }
 {
     let q = state::piece(work, cap, counts, k);
     let range = q.mentions;
     let Some(n) = uses::mentions::next_use(mentions, range, p) else {
-        return Turn::On(spills::spill(intervals, work, cap, counts, k));
+        return Ok(spills::spill(intervals, work, cap, counts, k));
     };
     spilling::split_then_spill(intervals, mentions, safepoints, work, cap, counts, k, n)
 }
@@ -70,7 +70,7 @@ fn keep_or_spill(
     counts: Counts,
     k: usize,
     x: u16,
-) -> Turn
+) -> Result<Counts, Refusal>
     requires held_of { HeldOf cap intervals.now mentions.now safepoints.now work.old counts k }
     requires x_bound { x < 32768 }
     ensures { Does cap mentions.now safepoints.now work.old work.new counts result (at_safepoint (cutting strategy intervals.now mentions.now safepoints.now cap) (state_of cap work.old counts) k x) }
@@ -82,7 +82,7 @@ fn keep_or_spill(
         return spill_to_next(intervals, mentions, safepoints, work, cap, counts, k, def);
     };
     if u == def {
-        return Turn::On(counts);
+        return Ok(counts);
     }
     let p = points::use_point(x);
     spills::split_and_spill(
@@ -100,14 +100,14 @@ fn at_first_safepoint(
     cap: usize,
     counts: Counts,
     k: usize,
-) -> Turn
+) -> Result<Counts, Refusal>
     requires { HeldOf cap intervals.now mentions.now safepoints.now work.old counts k }
     ensures { Does cap mentions.now safepoints.now work.old work.new counts result (at_first (cutting strategy intervals.now mentions.now safepoints.now cap) (state_of cap work.old counts) k) }
 {
     let q = state::piece(work, cap, counts, k);
     let range = q.safepoints;
     let Some(x) = uses::safepoints::first_safepoint(safepoints, range) else {
-        return Turn::On(counts);
+        return Ok(counts);
     };
     keep_or_spill(
         strategy, intervals, mentions, safepoints, work, cap, counts, k, x,
@@ -135,7 +135,7 @@ pub fn maybe_handle_safepoints(
     cap: usize,
     counts: Counts,
     k: usize,
-) -> Turn
+) -> Result<Counts, Refusal>
     requires { HeldOf cap intervals.now mentions.now safepoints.now work.old counts k }
     ensures { Does cap mentions.now safepoints.now work.old work.new counts result (handle_safepoints (cutting strategy intervals.now mentions.now safepoints.now cap) (state_of cap work.old counts) k) }
 {
@@ -144,5 +144,5 @@ pub fn maybe_handle_safepoints(
             strategy, intervals, mentions, safepoints, work, cap, counts, k,
         );
     }
-    Turn::On(counts)
+    Ok(counts)
 }

@@ -7,7 +7,7 @@ use mathlib.Core.Bool.{Bool, true, false}
 use mathlib.Core.List.{[]}
 use lib.Dec.{ltb}
 use Rattle.words.specs.Choose.{choose}
-use Rattle.rules.specs.declared.Answer.TheVariants.{NoRecord}
+use Rattle.rules.specs.declared.Refusal.TheVariants.{NoRecord}
 use Rattle.rules.specs.declared.Strategy.TheVariants.{From}
 use Rattle.rules.specs.State.{Given, State, goes, stops, go_on, with_pieces}
 use Rattle.rules.specs.Slots.{spill}

@@ -1,6 +1,6 @@
 -- A spill and a split-and-spill in the work area are those of `rules`, and leave the area ready.
 -- Assumes nothing.
-use Rattle.std.specs.Prelude.{Option, None, Some}
+use Rattle.std.specs.Prelude.{Option, None, Some, Ok, Err}
 use Prim.Native.Nat.{ℕ, ◌+◌, ◌*◌, ◌^◌, ◌≤◌, ◌<◌, min}
 use mathlib.Core.Path.{◌≡◌, refl, sym, ◌∙◌}
 use mathlib.Core.List.{List, []}
@@ -8,7 +8,7 @@ use native.Mathlib.Omega.{arith}
 use lib.ListN.{length, get_or}
 use Rattle.words.specs.Field.{bits}
 use Rattle.words.specs.Packed.{part}
-use Rattle.rules.specs.declared.Answer.TheVariants.{NoRecord}
+use Rattle.rules.specs.declared.Refusal.TheVariants.{NoRecord}
 use Rattle.rules.specs.declared.Piece.{Piece}
 use Rattle.rules.specs.declared.Strategy.{Strategy}
 use Rattle.rules.specs.declared.Strategy.TheVariants.{From}
@@ -20,8 +20,7 @@ use Rattle.uses.specs.Runs.{Rising}
 use Rattle.store.specs.declared.Counts.{Counts}
 use Rattle.store.specs.StateOf.{state_of, After, Got}
 use Rattle.store.proofs.StateLaws.{records_are}
-use Rattle.split.specs.declared.Turn.{Turn}
-use Rattle.split.specs.declared.Turn.TheVariants.{On, Off}
+use Rattle.split.specs.Turns.{Turn}
 use Rattle.split.specs.Turns.{cutting, outcome_of, Held, HeldOf, Turned, on, off, Does, Parted, Spilt}
 use Rattle.split.proofs.FitLaws.{fit_spill}
 use Rattle.split.proofs.SplitLaws.{split_room, split_full, got_rising}
@@ -43,14 +42,14 @@ spilt cap is ws ws' c d k q log g e a =
 
 module _ (cap : ℕ) (ms ss : List ℕ) where
   -- nothing is done
-  pub stays : (ws : List ℕ) (c : Counts) (k : ℕ) (o : Outcome) → Held cap ms ss ws c k → goes (state_of cap ws c) ≡ o → Does cap ms ss ws ws c (On c) o
+  pub stays : (ws : List ℕ) (c : Counts) (k : ℕ) (o : Outcome) → Held cap ms ss ws c k → goes (state_of cap ws c) ≡ o → Does cap ms ss ws ws c (Ok c) o
   unfolding outcome_of
   stays ws c k o h e =
       record { meets = e; turned = on c (record { ready = h.ready; fit = h.fit; records = omega arith; intervals = refl; slack = omega arith }); long = refl }
 
   -- no use follows; or the spilled record is split there
   pub tail_none : (y : Strategy) (is ws : List ℕ) (c : Counts) (k p : ℕ) (q : Piece) (x : Option ℕ) → Held cap ms ss ws c k → Got cap ws c k q
-      → x ≡ next_use p (mention_points (part q.mentions ms)) → x ≡ None → Does cap ms ss ws ws c (On c) (queue_tail (cutting y is ms ss cap) (state_of cap ws c) k p)
+      → x ≡ next_use p (mention_points (part q.mentions ms)) → x ≡ None → Does cap ms ss ws ws c (Ok c) (queue_tail (cutting y is ms ss cap) (state_of cap ws c) k p)
   unfolding queue_tail split_if_any
   tail_none y is ws c k p q x h g e n = let e' : next_use p (mention_points (part q.mentions ms)) ≡ None = sym e ∙ n in stays ws c k _ h (rw (← g.is, e'))
 
@@ -111,7 +110,7 @@ module _ (cap : ℕ) (ms ss : List ℕ) where
   module _ (y : Strategy) (is ws : List ℕ) (c : Counts) (k p : ℕ) where
     -- 10: there is no record for the child
     pub after_full : (u : ℕ) → HeldOf cap is ms ss ws c k → cap ≤ c.records
-        → Does cap ms ss ws ws c (Off (NoRecord k)) (split_and_spill_by (cutting y is ms ss cap) (state_of cap ws c) k p (Some u))
+        → Does cap ms ss ws ws c (Err (NoRecord k)) (split_and_spill_by (cutting y is ms ss cap) (state_of cap ws c) k p (Some u))
     unfolding outcome_of split_and_spill_by
     after_full u h l =
         record {

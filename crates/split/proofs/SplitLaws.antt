@@ -1,12 +1,13 @@
 -- A split in the work area is the split of `rules`, and leaves the area ready.
 -- Assumes nothing.
+use Rattle.std.specs.Prelude.{Ok, Err}
 use Prim.Native.Nat.{ℕ, ◌+◌, ◌≤◌, ◌<◌}
 use mathlib.Core.Path.{◌≡◌, refl, sym, ◌∙◌}
 use mathlib.Core.List.{List, [], ◌∷◌, ◌++◌}
 use native.Mathlib.Omega.{arith}
 use lib.ListN.{length, set}
 use borrow.Author.Tests.{lt-ltb, le-ltb}
-use Rattle.rules.specs.declared.Answer.TheVariants.{NoRecord}
+use Rattle.rules.specs.declared.Refusal.TheVariants.{NoRecord}
 use Rattle.rules.specs.declared.Piece.{Piece}
 use Rattle.rules.specs.declared.Strategy.{Strategy}
 use Rattle.rules.specs.State.{Given, State, goes, stops, with_pieces, enqueue}
@@ -17,7 +18,6 @@ use Rattle.uses.specs.declared.Halves.{Halves}
 use Rattle.store.specs.declared.Counts.{Counts}
 use Rattle.store.proofs.StateLaws.{records_are}
 use Rattle.store.specs.StateOf.{state_of, After, Got}
-use Rattle.split.specs.declared.Turn.TheVariants.{On, Off}
 use Rattle.split.specs.Fit.{PieceFits}
 use Rattle.split.specs.Turns.{cutting, outcome_of, Held, on, off, Does, Halved, HalvesPut, Parted}
 use Rattle.split.proofs.FitLaws.{fit_split, fit_enqueue}
@@ -81,7 +81,7 @@ module _ (cap : ℕ) (ms ss ws : List ℕ) (c : Counts) (k : ℕ) where
   -- .. and the child is queued
   pub queued : (y : Strategy) (is : List ℕ) (p n : ℕ) (ws₁ ws₂ : List ℕ) (d e : Counts) → Held cap ms ss ws c k → c.records < cap → n ≡ c.records
       → Parted cap ms ss ws ws₁ c d k p → After cap ws₁ ws₂ d e (enqueue (state_of cap ws₁ d) n) d.records (d.queued + 1) d.active
-      → Does cap ms ss ws ws₂ c (On e) (split_and_queue (cutting y is ms ss cap) (state_of cap ws c) k p)
+      → Does cap ms ss ws ws₂ c (Ok e) (split_and_queue (cutting y is ms ss cap) (state_of cap ws c) k p)
   unfolding outcome_of split_and_queue
   queued y is p n ws₁ ws₂ d e held room new a b =
       record {
@@ -106,7 +106,7 @@ module _ (cap : ℕ) (ms ss ws : List ℕ) (c : Counts) (k : ℕ) where
 
   -- all records are used
   pub full : (y : Strategy) (is : List ℕ) (p : ℕ) → Held cap ms ss ws c k → cap ≤ c.records
-      → Does cap ms ss ws ws c (Off (NoRecord k)) (split_and_queue (cutting y is ms ss cap) (state_of cap ws c) k p)
+      → Does cap ms ss ws ws c (Err (NoRecord k)) (split_and_queue (cutting y is ms ss cap) (state_of cap ws c) k p)
   unfolding outcome_of split_and_queue
   full y is p held used =
       record {

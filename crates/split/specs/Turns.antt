@@ -1,7 +1,7 @@
 -- Facts for contracts: how a split or a spill in the work area ends, and what it leaves.
-use Rattle.std.specs.Prelude.{ℕ, ◌+◌, ◌≤◌, ◌<◌, ◌≡◌, false, List, [], ◌∷◌, ◌++◌, length, set}
+use Rattle.std.specs.Prelude.{ℕ, ◌+◌, ◌≤◌, ◌<◌, ◌≡◌, false, List, [], ◌∷◌, ◌++◌, length, set, Ok, Err}
 use Rattle.words.specs.Packed.{interval_count}
-use Rattle.rules.specs.declared.Answer.{Answer}
+use Rattle.rules.specs.declared.Refusal.{Refusal}
 use Rattle.rules.specs.declared.Strategy.{Strategy}
 use Rattle.rules.specs.declared.Strategy.TheVariants.{From}
 use Rattle.rules.specs.State.{Given, State, Outcome, goes, stops, go_on, with_pieces}
@@ -10,8 +10,6 @@ use Rattle.rules.specs.Slots.{spill}
 use Rattle.uses.specs.declared.Halves.{Halves}
 use Rattle.store.specs.declared.Counts.{Counts}
 use Rattle.store.specs.StateOf.{state_of, Ready, After}
-use Rattle.split.specs.declared.Turn.{Turn}
-use Rattle.split.specs.declared.Turn.TheVariants.{On, Off}
 use Rattle.split.specs.Fit.{Fit}
 
 -- what splits and spills read of all that a run is given
@@ -23,10 +21,14 @@ cutting y is ms ss cap =
       capacity = cap;
     }
 
+-- how a change of the work area ends: the run goes on with these counts, or is refused
+abbrev pub Turn : Type 0
+Turn = Result Counts Refusal
+
 -- the outcome of `rules` that a turn is
 unfoldable pub outcome_of : ℕ → List ℕ → Turn → Outcome
-outcome_of cap ws (On c) = goes (state_of cap ws c)
-outcome_of cap ws (Off a) = stops a
+outcome_of cap ws (Ok c) = goes (state_of cap ws c)
+outcome_of cap ws (Err a) = stops a
 
 -- the area is ready for a split or a spill of record k
 pub record Held (cap : ℕ) (ms ss ws : List ℕ) (c : Counts) (k : ℕ) : Type 0 where
@@ -50,8 +52,8 @@ pub record Went (cap : ℕ) (ms ss ws : List ℕ) (c d : Counts) : Type 0 where
   pub slack : d.queued + d.active + c.records ≤ c.queued + c.active + d.records
 
 pub data Turned (cap : ℕ) (ms ss ws : List ℕ) (c : Counts) : Turn → Type 0 where
-  on : (d : Counts) → Went cap ms ss ws c d → Turned cap ms ss ws c (On d)
-  off : (a : Answer) → Turned cap ms ss ws c (Off a)
+  on : (d : Counts) → Went cap ms ss ws c d → Turned cap ms ss ws c (Ok d)
+  off : (a : Refusal) → Turned cap ms ss ws c (Err a)
 
 -- the turn r is the outcome o, and leaves the area ready
 pub record Does (cap : ℕ) (ms ss ws ws' : List ℕ) (c : Counts) (r : Turn) (o : Outcome) : Type 0 where

@@ -3,7 +3,8 @@ ghost use Rattle.rules.specs.declared.Strategy.TheVariants.{From};
 ghost use Rattle.store.specs.StateOf.{state_of};
 ghost use Rattle.split.specs.Turns.{cutting, HeldOf, Does, split_then_spill};
 
-use crate::{Turn, spills, splits};
+use crate::{spills, splits};
+use rules::Refusal;
 use store::Counts;
 
 // Record k is split at p, the child queued, and the record spilled.
@@ -16,13 +17,10 @@ pub fn split_then_spill(
     counts: Counts,
     k: usize,
     p: u16,
-) -> Turn
+) -> Result<Counts, Refusal>
     requires { HeldOf cap intervals.now mentions.now safepoints.now work.old counts k }
     ensures { Does cap mentions.now safepoints.now work.old work.new counts result (split_then_spill (cutting From intervals.now mentions.now safepoints.now cap) (state_of cap work.old counts) k p) }
 {
-    let parted = splits::split_and_queue(mentions, safepoints, work, cap, counts, k, p);
-    match parted {
-        Turn::On(c) => Turn::On(spills::spill(intervals, work, cap, c, k)),
-        Turn::Off(a) => Turn::Off(a),
-    }
+    let parted = splits::split_and_queue(mentions, safepoints, work, cap, counts, k, p)?;
+    Ok(spills::spill(intervals, work, cap, parted, k))
 }

@@ -6,8 +6,8 @@ ghost use Rattle.rules.specs.Split as rule;
 ghost use Rattle.store.specs.StateOf.{state_of};
 ghost use Rattle.split.specs.Turns.{cutting, Held, HeldOf, Spilling, Spilt, Does};
 
-use crate::{Turn, splits};
-use rules::{Answer, Strategy};
+use crate::splits;
+use rules::{Refusal, Strategy};
 use store::{Counts, state};
 
 // Record k goes to its virtual register's slot.
@@ -30,14 +30,14 @@ fn queue_tail(
     counts: Counts,
     spilled: usize,
     p: u16,
-) -> Turn
+) -> Result<Counts, Refusal>
     requires { Held cap mentions.now safepoints.now work.old counts spilled }
     ensures { Does cap mentions.now safepoints.now work.old work.new counts result (rule.queue_tail (cutting From [] mentions.now safepoints.now cap) (state_of cap work.old counts) spilled p) }
 {
     let q = state::piece(work, cap, counts, spilled);
     let range = q.mentions;
     let Some(n) = uses::mentions::next_use(mentions, range, p) else {
-        return Turn::On(counts);
+        return Ok(counts);
     };
     splits::split_and_queue(mentions, safepoints, work, cap, counts, spilled, n)
 }
@@ -52,7 +52,7 @@ fn spill_tail(
     counts: Counts,
     k: usize,
     p: u16,
-) -> Turn
+) -> Result<Counts, Refusal>
     requires { HeldOf cap intervals.now mentions.now safepoints.now work.old counts k }
     ensures { Does cap mentions.now safepoints.now work.old work.new counts result (rule.queue_tail (cutting From intervals.now mentions.now safepoints.now cap) (slots.spill (cutting From intervals.now mentions.now safepoints.now cap) (state_of cap work.old counts) k) k p) }
 {
@@ -79,13 +79,13 @@ fn spill_after(
     k: usize,
     p: u16,
     u: u16,
-) -> Turn
+) -> Result<Counts, Refusal>
     requires { HeldOf cap intervals.now mentions.now safepoints.now work.old counts k }
     ensures { Does cap mentions.now safepoints.now work.old work.new counts result (rule.split_and_spill_by (cutting strategy intervals.now mentions.now safepoints.now cap) (state_of cap work.old counts) k p (Some u)) }
 {
     let new = counts.records;
     if cap <= new {
-        return Turn::Off(Answer::NoRecord(k as u16));
+        return Err(Refusal::NoRecord(k as u16));
     }
     let from = after_use(u, p);
     let at = uses::places::pick(strategy, from, p);
@@ -104,7 +104,7 @@ pub fn split_and_spill(
     counts: Counts,
     k: usize,
     p: u16,
-) -> Turn
+) -> Result<Counts, Refusal>
     requires { HeldOf cap intervals.now mentions.now safepoints.now work.old counts k }
     ensures { Does cap mentions.now safepoints.now work.old work.new counts result (rule.split_and_spill (cutting strategy intervals.now mentions.now safepoints.now cap) (state_of cap work.old counts) k p) }
 {

@@ -5,8 +5,7 @@ ghost use Rattle.rules.specs.Split.{split_and_queue};
 ghost use Rattle.store.specs.StateOf.{state_of};
 ghost use Rattle.split.specs.Turns.{cutting, Held, Halved, HalvesPut, Parted, Does};
 
-use crate::Turn;
-use rules::Answer;
+use rules::Refusal;
 use store::{Counts, state};
 use uses::Halves;
 
@@ -49,14 +48,14 @@ pub fn split_and_queue(
     counts: Counts,
     k: usize,
     p: u16,
-) -> Turn
+) -> Result<Counts, Refusal>
     requires { Held cap mentions.now safepoints.now work.old counts k }
     ensures { Does cap mentions.now safepoints.now work.old work.new counts result (split_and_queue (cutting From [] mentions.now safepoints.now cap) (state_of cap work.old counts) k p) }
 {
     let new = counts.records;
     if cap <= new {
-        return Turn::Off(Answer::NoRecord(k as u16));
+        return Err(Refusal::NoRecord(k as u16));
     }
     let parted = split(mentions, safepoints, work, cap, counts, k, p);
-    Turn::On(state::enqueue(work, cap, parted, new))
+    Ok(state::enqueue(work, cap, parted, new))
 }

@@ -1,6 +1,6 @@
 -- Steps 2 and 3 in the work area are those of the rules.
 -- Assumes nothing.
-use Rattle.std.specs.Prelude.{Option, None, Some}
+use Rattle.std.specs.Prelude.{Option, None, Some, Ok, Err}
 use Prim.Native.Nat.{ℕ, ◌<◌}
 use mathlib.Core.Path.{◌≡◌, refl, sym, ap, ◌∙◌}
 use mathlib.Core.Bool.{Bool, true, false}
@@ -10,9 +10,9 @@ use lib.ListN.{length}
 use lib.Dec.{ltb}
 use Rattle.words.specs.Choose.{choose}
 use Rattle.words.specs.Packed.{part}
-use Rattle.rules.specs.declared.Answer.{Answer}
-use Rattle.rules.specs.declared.Choice.{Choice}
-use Rattle.rules.specs.declared.Choice.TheVariants.{AllBlocked, Take}
+use Rattle.rules.specs.declared.Refusal.{Refusal}
+use Rattle.rules.specs.Steps.{Choice}
+use Rattle.std.specs.Prelude.{None, Some}
 use Rattle.rules.specs.declared.Mode.{Mode}
 use Rattle.rules.specs.declared.Piece.{Piece}
 use Rattle.rules.specs.declared.Pos.{Pos}
@@ -25,17 +25,14 @@ use Rattle.rules.specs.Steps.{take_register, allocate_blocked, take_until, try_a
 use Rattle.store.specs.declared.Counts.{Counts}
 use Rattle.store.specs.StateOf.{state_of, Got}
 use Rattle.store.proofs.StateLaws.{records_are}
-use Rattle.split.specs.declared.Turn.{Turn}
-use Rattle.split.specs.declared.Turn.TheVariants.{On, Off}
+use Rattle.split.specs.Turns.{Turn}
 use Rattle.split.specs.Fit.{Fit}
 use Rattle.split.specs.Turns.{cutting, outcome_of, Held, Does}
 use Rattle.split.proofs.NarrowLaws.{queue_any}
 use Rattle.split.proofs.TurnLaws.{on_goes, on_went, off_stops}
-use Rattle.steps.specs.Stepping.{stepping, Parting, Taking, Took, Tries, grant_part, grant_until, grant_of, partial_at, take_part, ended, refused, Did}
+use Rattle.steps.specs.Stepping.{stepping, Parting, Taking, Took, Tries, grant_part, grant_until, grant_at, grant_of, partial_at, take_part, ended, refused, Did}
 use Rattle.steps.specs.declared.Grant.{Grant}
 use Rattle.steps.specs.declared.Grant.TheVariants.{Whole, Part, Refused}
-use Rattle.steps.specs.declared.Tried.TheVariants.{Taken}
-use Rattle.steps.specs.declared.Tried.TheVariants as tried
 use Rattle.steps.proofs.TakingLaws.{fit_take}
 
 -- the end of the piece that was read
@@ -50,7 +47,7 @@ part_read cap ms ws c k a m q x g e = rw g.is at e
 module _ (cap : ℕ) (ms ss : List ℕ) where
   -- a register taken is a step done
   pub took_whole : (ws ws' : List ℕ) (c d : Counts) (k r : ℕ) → Fit ms ss (state_of cap ws c).pieces → k < length (state_of cap ws c).pieces → Took cap ws ws' c d k r
-      → Did cap ms ss ws ws' c (On d) (goes (take_register (state_of cap ws c) k r))
+      → Did cap ms ss ws ws' c (Ok d) (goes (take_register (state_of cap ws c) k r))
   unfolding outcome_of
   took_whole ws ws' c d k r f l t =
       record {
@@ -71,13 +68,13 @@ module _ (cap : ℕ) (ms ss : List ℕ) where
     pub parting_held : Parting cap ms ss ws c k → Held cap ms ss ws c k
     parting_held h = record { ready = h.ready; fit = h.fit; inside = h.inside }
 
-    pub parted_taking : (d : Counts) (o : Outcome) → Parting cap ms ss ws c k → Does cap ms ss ws ws₁ c x o → x ≡ On d → Taking cap ws₁ d k
+    pub parted_taking : (d : Counts) (o : Outcome) → Parting cap ms ss ws c k → Does cap ms ss ws ws₁ c x o → x ≡ Ok d → Taking cap ws₁ d k
     parted_taking d o h t e =
         let w = on_went cap ms ss ws ws₁ c x d o t e in
         record { ready = w.ready; inside = omega (arith, h.inside, w.records); room = omega (arith, h.room, w.slack) }
 
-    pub part_taken : (ws₂ : List ℕ) (d e : Counts) → Parting cap ms ss ws c k → Does cap ms ss ws ws₁ c x (split_and_queue (cutting From [] ms ss cap) (state_of cap ws c) k p) → x ≡ On d
-        → Took cap ws₁ ws₂ d e k r → Did cap ms ss ws ws₂ c (On e) (take_part ms ss cap (state_of cap ws c) k r p)
+    pub part_taken : (ws₂ : List ℕ) (d e : Counts) → Parting cap ms ss ws c k → Does cap ms ss ws ws₁ c x (split_and_queue (cutting From [] ms ss cap) (state_of cap ws c) k p) → x ≡ Ok d
+        → Took cap ws₁ ws₂ d e k r → Did cap ms ss ws ws₂ c (Ok e) (take_part ms ss cap (state_of cap ws c) k r p)
     part_taken ws₂ d e h t i u =
         let w = on_went cap ms ss ws ws₁ c x d _ t i in
         let v = took_whole ws₁ ws₂ d e k r w.fit (rw (records_are cap ws₁ d w.ready) (omega (arith, h.inside, w.records))) u in
@@ -94,77 +91,81 @@ module _ (cap : ℕ) (ms ss : List ℕ) where
           long = u.after.long ∙ t.long;
         }
 
-    pub part_off : (a : Answer) → Does cap ms ss ws ws₁ c x (split_and_queue (cutting From [] ms ss cap) (state_of cap ws c) k p) → x ≡ Off a
-        → Did cap ms ss ws ws₁ c (Off a) (take_part ms ss cap (state_of cap ws c) k r p)
+    pub part_off : (a : Refusal) → Does cap ms ss ws ws₁ c x (split_and_queue (cutting From [] ms ss cap) (state_of cap ws c) k p) → x ≡ Err a
+        → Did cap ms ss ws ws₁ c (Err a) (take_part ms ss cap (state_of cap ws c) k r p)
     unfolding outcome_of
     part_off a t i = record { meets = rw (off_stops cap ms ss ws ws₁ c x a _ t i); ends = refused a; long = t.long }
 
 -- ---- what is granted
 module _ (m : Mode) (ms : List ℕ) (q : Piece) (r a : ℕ) where
-  pub until_after : (b : Bool) → b ≡ ltb q.end a → b ≡ true → Whole r ≡ grant_until m ms q r a
+  pub until_after : (b : Bool) → b ≡ ltb q.end a → b ≡ true → Some (Whole r) ≡ grant_until m ms q r a
   until_after b e i = rw (← e, i) refl
 
   module _ (b : Bool) (e : b ≡ ltb q.end a) (i : b ≡ false) (x : Option ℕ) (f : x ≡ partial_at m ms q a) where
-    pub until_part : (p : ℕ) → x ≡ Some p → Part r p ≡ grant_until m ms q r a
+    pub until_part : (p : ℕ) → x ≡ Some p → Some (Part r p) ≡ grant_until m ms q r a
     unfolding grant_part
     until_part p j = rw (← e, i, ← f, j) refl
 
-    pub until_none : x ≡ None → Refused ≡ grant_until m ms q r a
+    pub until_none : x ≡ None → None ≡ grant_until m ms q r a
     unfolding grant_part
     until_none j = rw (← e, i, ← f, j) refl
 
 module _ (m : Mode) (ms : List ℕ) (q : Piece) (x : Choice) where
-  pub grant_none : x ≡ AllBlocked → Refused ≡ grant_of m ms q x
+  pub grant_none : x ≡ None → None ≡ grant_of m ms q x
   unfolding grant_of
   grant_none e = rw e refl
 
-  module _ (r : ℕ) (p : Pos) (e : x ≡ Take r p) where
-    pub grant_blocked : p ≡ Blocked → Refused ≡ grant_of m ms q x
-    unfolding grant_of
+  module _ (y : RegPos) (e : x ≡ Some y) where
+    pub grant_blocked : y.pos ≡ Blocked → None ≡ grant_of m ms q x
+    unfolding grant_of grant_at
     grant_blocked f = rw (e, f) refl
 
-    pub grant_at : (a : ℕ) (o : Grant) → p ≡ At a → o ≡ grant_until m ms q r a → o ≡ grant_of m ms q x
-    unfolding grant_of
-    grant_at a o f g = rw (e, f) g
+    pub grant_point : (a : ℕ) (o : Option Grant) → y.pos ≡ At a → o ≡ grant_until m ms q y.register a → o ≡ grant_of m ms q x
+    unfolding grant_of grant_at
+    grant_point a o f g = rw (e, f) g
 
-    pub grant_never : p ≡ Never → Whole r ≡ grant_of m ms q x
-    unfolding grant_of
+    pub grant_never : y.pos ≡ Never → Some (Whole y.register) ≡ grant_of m ms q x
+    unfolding grant_of grant_at
     grant_never f = rw (e, f) refl
 
 -- what the rules do with what is granted
-abbrev by_grant : Given → State → ℕ → Grant → Outcome
-by_grant g s k (Whole r) = goes (take_register s k r)
-by_grant g s k (Part r p) = go_on (split_and_queue g s k p) (λ t. goes (take_register t k r))
-by_grant g s k Refused = allocate_blocked g s k
+abbrev by_grant : Given → State → ℕ → Option Grant → Outcome
+by_grant g s k (Some (Whole r)) = goes (take_register s k r)
+by_grant g s k (Some (Part r p)) = go_on (split_and_queue g s k p) (λ t. goes (take_register t k r))
+by_grant g s k None = allocate_blocked g s k
 
 by_part : (g : Given) (s : State) (k r : ℕ) (x : Option ℕ) → take_until g s k r x ≡ by_grant g s k (grant_part r x)
 unfolding take_until grant_part
 by_part g s k r (Some p) = refl
 by_part g s k r None = refl
 
-by_until : (g : Given) (s : State) (k r : ℕ) (b : Bool) (x : Option ℕ) → choose b (goes (take_register s k r)) (take_until g s k r x) ≡ by_grant g s k (choose b (Whole r) (grant_part r x))
+by_until : (g : Given) (s : State) (k r : ℕ) (b : Bool) (x : Option ℕ) → choose b (goes (take_register s k r)) (take_until g s k r x) ≡ by_grant g s k (choose b (Some (Whole r)) (grant_part r x))
 by_until g s k r true x = refl
 by_until g s k r false x = by_part g s k r x
 
+by_at : (n : ℕ) (m : Mode) (cs rs fs is ms ss : List ℕ) (cap : ℕ) (s : State) (k r : ℕ) (p : Pos)
+    → try_at (stepping n m cs rs fs is ms ss cap) s k r p ≡ by_grant (stepping n m cs rs fs is ms ss cap) s k (grant_at m ms (piece s k) r p)
+unfolding try_at grant_at
+by_at n m cs rs fs is ms ss cap s k r Blocked = refl
+by_at n m cs rs fs is ms ss cap s k r (At a) = by_until (stepping n m cs rs fs is ms ss cap) s k r (ltb (piece s k).end a) (partial_at m ms (piece s k) a)
+by_at n m cs rs fs is ms ss cap s k r Never = refl
+
 by_grant_lem : (n : ℕ) (m : Mode) (cs rs fs is ms ss : List ℕ) (cap : ℕ) (s : State) (k : ℕ) (x : Choice)
     → try_take (stepping n m cs rs fs is ms ss cap) s k x ≡ by_grant (stepping n m cs rs fs is ms ss cap) s k (grant_of m ms (piece s k) x)
-unfolding try_take try_at grant_of
-by_grant_lem n m cs rs fs is ms ss cap s k AllBlocked = refl
-by_grant_lem n m cs rs fs is ms ss cap s k (Take r Blocked) = refl
-by_grant_lem n m cs rs fs is ms ss cap s k (Take r (At a)) =
-    by_until (stepping n m cs rs fs is ms ss cap) s k r (ltb (piece s k).end a) (partial_at m ms (piece s k) a)
-by_grant_lem n m cs rs fs is ms ss cap s k (Take r Never) = refl
+unfolding try_take grant_of
+by_grant_lem n m cs rs fs is ms ss cap s k None = refl
+by_grant_lem n m cs rs fs is ms ss cap s k (Some e) = by_at n m cs rs fs is ms ss cap s k e.register e.pos
 
 -- ---- what was tried
-pub taken_only : {z z' : Turn} → Taken z ≡ Taken z' → z ≡ z'
+pub taken_only : {z z' : Turn} → Some z ≡ Some z' → z ≡ z'
 taken_only e = cc
 
-module _ (cap : ℕ) (m : Mode) (ms ss ws : List ℕ) (c : Counts) (k : ℕ) (x : Choice) (gr : Grant) (e : gr ≡ grant_of m ms (piece (state_of cap ws c) k) x) where
+module _ (cap : ℕ) (m : Mode) (ms ss ws : List ℕ) (c : Counts) (k : ℕ) (x : Choice) (gr : Option Grant) (e : gr ≡ grant_of m ms (piece (state_of cap ws c) k) x) where
   -- what the rules do, by what was granted
-  done : (n : ℕ) (cs rs fs is : List ℕ) (y : Grant) → gr ≡ y → try_take (stepping n m cs rs fs is ms ss cap) (state_of cap ws c) k x ≡ by_grant (stepping n m cs rs fs is ms ss cap) (state_of cap ws c) k y
+  done : (n : ℕ) (cs rs fs is : List ℕ) (y : Option Grant) → gr ≡ y → try_take (stepping n m cs rs fs is ms ss cap) (state_of cap ws c) k x ≡ by_grant (stepping n m cs rs fs is ms ss cap) (state_of cap ws c) k y
   done n cs rs fs is y f = by_grant_lem n m cs rs fs is ms ss cap (state_of cap ws c) k x ∙ ap (by_grant (stepping n m cs rs fs is ms ss cap) (state_of cap ws c) k) (sym e ∙ f)
 
-  pub tries_whole : (ws' : List ℕ) (r : ℕ) (d : Counts) → Parting cap ms ss ws c k → gr ≡ Whole r → Took cap ws ws' c d k r → Tries cap m ms ss ws ws' c k x (Taken (On d))
+  pub tries_whole : (ws' : List ℕ) (r : ℕ) (d : Counts) → Parting cap ms ss ws c k → gr ≡ Some (Whole r) → Took cap ws ws' c d k r → Tries cap m ms ss ws ws' c k x (Some (Ok d))
   tries_whole ws' r d h f u =
       record {
         taken = λ n cs rs fs is z i.
@@ -174,19 +175,19 @@ module _ (cap : ℕ) (m : Mode) (ms ss ws : List ℕ) (c : Counts) (k : ℕ) (x 
         kept = λ i. absurd (let q : ◌≡◌ {A = ℕ} 0 1 = cc in omega arith);
       }
 
-  pub tries_part : (ws' : List ℕ) (r p : ℕ) (w : Turn) → gr ≡ Part r p → Did cap ms ss ws ws' c w (take_part ms ss cap (state_of cap ws c) k r p) → Tries cap m ms ss ws ws' c k x (Taken w)
+  pub tries_part : (ws' : List ℕ) (r p : ℕ) (w : Turn) → gr ≡ Some (Part r p) → Did cap ms ss ws ws' c w (take_part ms ss cap (state_of cap ws c) k r p) → Tries cap m ms ss ws ws' c k x (Some w)
   tries_part ws' r p w f d =
       record {
-        taken = λ n cs rs fs is z i. rw (← taken_only i, done n cs rs fs is (Part r p) f, queue_any (stepping n m cs rs fs is ms ss cap) (state_of cap ws c) k p) d;
+        taken = λ n cs rs fs is z i. rw (← taken_only i, done n cs rs fs is (Some (Part r p)) f, queue_any (stepping n m cs rs fs is ms ss cap) (state_of cap ws c) k p) d;
         blocked = λ n cs rs fs is i. absurd (let q : ◌≡◌ {A = ℕ} 0 1 = cc in omega arith);
         kept = λ i. absurd (let q : ◌≡◌ {A = ℕ} 0 1 = cc in omega arith);
       }
 
-  pub tries_none : gr ≡ Refused → Tries cap m ms ss ws ws c k x tried.Blocked
+  pub tries_none : gr ≡ None → Tries cap m ms ss ws ws c k x None
   tries_none f =
       record {
         taken = λ n cs rs fs is z i. absurd (let q : ◌≡◌ {A = ℕ} 0 1 = cc in omega arith);
-        blocked = λ n cs rs fs is i. done n cs rs fs is Refused f;
+        blocked = λ n cs rs fs is i. done n cs rs fs is None f;
         kept = λ i. refl;
       }
 

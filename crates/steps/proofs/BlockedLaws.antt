@@ -1,6 +1,6 @@
 -- Step 4 in the work area is step 4 of the rules.
 -- Assumes nothing.
-use Rattle.std.specs.Prelude.{Option, None, Some}
+use Rattle.std.specs.Prelude.{Option, None, Some, Ok, Err}
 use Prim.Native.Nat.{ℕ, ◌≤◌, ◌<◌}
 use mathlib.Core.Path.{◌≡◌, refl, sym, ap, ◌∙◌}
 use mathlib.Core.Bool.{Bool, true, false}
@@ -12,9 +12,9 @@ use borrow.Author.Tests.{le-leb, lt-leb}
 use Rattle.words.specs.Choose.{choose}
 use Rattle.words.specs.Packed.{part, interval_count}
 use Rattle.words.specs.declared.Class.{Class}
-use Rattle.rules.specs.declared.Answer.TheVariants.{NoRegister}
-use Rattle.rules.specs.declared.Choice.{Choice}
-use Rattle.rules.specs.declared.Choice.TheVariants.{AllBlocked, Take}
+use Rattle.rules.specs.declared.Refusal.TheVariants.{NoRegister}
+use Rattle.rules.specs.Steps.{Choice}
+use Rattle.std.specs.Prelude.{None, Some}
 use Rattle.rules.specs.declared.Mode.{Mode}
 use Rattle.rules.specs.declared.Piece.{Piece}
 use Rattle.rules.specs.declared.Pos.{Pos}
@@ -33,8 +33,7 @@ use Rattle.choice.specs.Row.{pos_in, FixedRow}
 use Rattle.choice.specs.Holding.{Runs, HolderRow, next_pos}
 use Rattle.choice.proofs.HoldingLaws.{next_row}
 use Rattle.choice.proofs.ChoiceLaws.{Takes, furthest_takes, next_choice, block_start}
-use Rattle.split.specs.declared.Turn.{Turn}
-use Rattle.split.specs.declared.Turn.TheVariants.{On, Off}
+use Rattle.split.specs.Turns.{Turn}
 use Rattle.split.specs.Turns.{outcome_of, HeldOf, Spilt}
 use Rattle.uses.specs.Runs.{Rising}
 use Rattle.split.proofs.SpillLaws.{of_rising}
@@ -70,22 +69,22 @@ module _ (g : Given) where
   -- ---- the weighing: where the block row is the class's, and the choice the furthest of the next uses
   module _ (s : State) (k f first count scratch : ℕ) (row block : List Pos)
       (x : FixedRow g.tables.registers g.tables.fragments first count (piece s k).start (piece s k).end row block) where
-    weigh_is : (c : Choice) → c ≡ furthest (next_use_pos g s (piece s k)) scratch first count AllBlocked → weigh g s k f c ≡ weigh_by (placing_of g) s k f (pos_in block) c
+    weigh_is : (c : Choice) → c ≡ furthest (next_use_pos g s (piece s k)) scratch first count None → weigh g s k f c ≡ weigh_by (placing_of g) s k f (pos_in block) c
     unfolding weigh weigh_by take_over
-    weigh_is AllBlocked e = until_any g s k f ∙ sym (until_any (placing_of g) s k f)
-    weigh_is (Take r p) e = go (below (At f) p) refl
+    weigh_is None e = until_any g s k f ∙ sym (until_any (placing_of g) s k f)
+    weigh_is (Some y) e = go (below (At f) y.pos) refl
       where
-        takes : Takes (next_use_pos g s (piece s k)) scratch first count r p
-        takes = furthest_takes (next_use_pos g s (piece s k)) scratch first count r p (sym e)
+        takes : Takes (next_use_pos g s (piece s k)) scratch first count y.register y.pos
+        takes = furthest_takes (next_use_pos g s (piece s k)) scratch first count y.register y.pos (sym e)
 
-        over : below (At f) p ≡ true → take_over g s k r ≡ take_over_at (placing_of g) s k r (pos_in block r) (holder s r)
+        over : below (At f) y.pos ≡ true → take_over g s k y.register ≡ take_over_at (placing_of g) s k y.register (pos_in block y.register) (holder s y.register)
         over b =
-            let n : below (At f) (next_use_pos g s (piece s k) r) ≡ true = rw takes.is at b in
-            let w : pos_in block r ≡ first_start (piece s k).start (piece s k).end (fragments_of g r) = x.held r takes.low takes.high ∙ block_start g s (piece s k) r f n in
-            rw w (over_narrow s k r (first_start (piece s k).start (piece s k).end (fragments_of g r)) (holder s r))
+            let n : below (At f) (next_use_pos g s (piece s k) y.register) ≡ true = rw takes.is at b in
+            let w : pos_in block y.register ≡ first_start (piece s k).start (piece s k).end (fragments_of g y.register) = x.held y.register takes.low takes.high ∙ block_start g s (piece s k) y.register f n in
+            rw w (over_narrow s k y.register (first_start (piece s k).start (piece s k).end (fragments_of g y.register)) (holder s y.register))
 
-        go : (b : Bool) → below (At f) p ≡ b
-            → choose b (take_over g s k r) (spill_until g s k f) ≡ choose b (take_over_at (placing_of g) s k r (pos_in block r) (holder s r)) (spill_until (placing_of g) s k f)
+        go : (b : Bool) → below (At f) y.pos ≡ b
+            → choose b (take_over g s k y.register) (spill_until g s k f) ≡ choose b (take_over_at (placing_of g) s k y.register (pos_in block y.register) (holder s y.register)) (spill_until (placing_of g) s k f)
         go true b = over b
         go false b = until_any g s k f ∙ sym (until_any (placing_of g) s k f)
 
@@ -98,7 +97,7 @@ pub block_back : (rs fs : List ℕ) (first count S end : ℕ) (tab : List (List 
 block_back rs fs first count S end tab c old row e l o h = rw (row_back tab c row e l) (rw o at h)
 
 pub use_back : (tab : List (List Pos)) (c first count scratch : ℕ) (row uses : List Pos) (o : Choice) → tab ≡ replicate 8 (replicate 64 Never) → c < 8 → uses ≡ get_or (set tab c row) c []
-    → o ≡ furthest (pos_in uses) scratch first count AllBlocked → o ≡ furthest (pos_in row) scratch first count AllBlocked
+    → o ≡ furthest (pos_in uses) scratch first count None → o ≡ furthest (pos_in row) scratch first count None
 use_back tab c first count scratch row uses o e l u h = rw (u, row_back tab c row e l) at h
 
 -- ---- the code's facts
@@ -154,13 +153,13 @@ module _ (cap n : ℕ) (m : Mode) (cs rs fs is ms ss ws : List ℕ) (c : Counts)
     weighing_popping h = record { ready = h.ready; fit = h.fit; inside = h.inside; rows = h.rows; room = h.room }
 
     -- the furthest of a class is one of 64
-    pub chosen : (row : List Pos) (o : Choice) → Weighing cap is ms ss ws c k i x → o ≡ furthest (pos_in row) x.scratch x.first x.count AllBlocked → Chosen o
+    pub chosen : (row : List Pos) (o : Choice) → Weighing cap is ms ss ws c k i x → o ≡ furthest (pos_in row) x.scratch x.first x.count None → Chosen o
     chosen row o h e =
         record { below = λ r p d. let y = furthest_takes (pos_in row) x.scratch x.first x.count r p (sym e ∙ d) in omega (arith, y.high, h.registers) }
 
     pub uses_weighed : (ws' : List ℕ) (f S : ℕ) (block next : List Pos) (o : Choice) (z : Turn)
         → HolderRow (next_pos ms (state_of cap ws c) S block) (state_of cap ws c) x.first x.count next
-        → o ≡ furthest (pos_in next) x.scratch x.first x.count AllBlocked → Did cap ms ss ws ws' c z (weigh_by (placing m is ms ss cap) (state_of cap ws c) k f (pos_in block) o)
+        → o ≡ furthest (pos_in next) x.scratch x.first x.count None → Did cap ms ss ws ws' c z (weigh_by (placing m is ms ss cap) (state_of cap ws c) k f (pos_in block) o)
         → Weighed cap m is ms ss ws ws' c k f S x block z
     uses_weighed ws' f S block next o z h e d = record { next = next; held = h; did = rw e at d }
 
@@ -169,7 +168,7 @@ module _ (cap n : ℕ) (m : Mode) (cs rs fs is ms ss ws : List ℕ) (c : Counts)
         → FixedRow rs fs x.first x.count q.start q.end row block → Weighed cap m is ms ss ws ws' c k f q.start x block z
         → Did cap ms ss ws ws' c z (weigh (stepping n m cs rs fs is ms ss cap) (state_of cap ws c) k f (furthest_of (class_for cs is (state_of cap ws c) k) (next_use_pos (stepping n m cs rs fs is ms ss cap) (state_of cap ws c) (piece (state_of cap ws c) k))))
     weighed ws' f q row block z h g b d =
-        let o : Choice = furthest (pos_in d.next) x.scratch x.first x.count AllBlocked in
+        let o : Choice = furthest (pos_in d.next) x.scratch x.first x.count None in
         let b' : FixedRow rs fs x.first x.count (piece (state_of cap ws c) k).start (piece (state_of cap ws c) k).end row block = rw g.is at b in
         let h' : HolderRow (next_pos ms (state_of cap ws c) (piece (state_of cap ws c) k).start block) (state_of cap ws c) x.first x.count d.next = rw g.is at d.held in
         let w = next_row rs fs ms (state_of cap ws c) (piece (state_of cap ws c) k) x.first x.count row block d.next b' h' in
@@ -182,7 +181,7 @@ module _ (cap n : ℕ) (m : Mode) (cs rs fs is ms ss ws : List ℕ) (c : Counts)
   -- ---- step 4
   -- 11: no register but scratch
   pub scratch_alone : (f : ℕ) (r : Kind) → KindOf cs is (piece (state_of cap ws c) k).interval r → r.class.count ≤ 1
-      → Did cap ms ss ws ws c (Off (NoRegister k)) (blocked_by (stepping n m cs rs fs is ms ss cap) (state_of cap ws c) k (Some f))
+      → Did cap ms ss ws ws c (Err (NoRegister k)) (blocked_by (stepping n m cs rs fs is ms ss cap) (state_of cap ws c) k (Some f))
   unfolding blocked_by outcome_of
   scratch_alone f r j l =
       let b : only_scratch (class_for cs is (state_of cap ws c) k) ≡ true = le-leb (class_for cs is (state_of cap ws c) k).count 1 (rw (kind_class r j) at l) in
@@ -200,12 +199,12 @@ module _ (cap n : ℕ) (m : Mode) (cs rs fs is ms ss ws : List ℕ) (c : Counts)
   module _ (u : Option ℕ) (e : u ≡ first_use ms (piece (state_of cap ws c) k)) where
     -- no mention: spilled whole
     pub unmentioned : (ws' : List ℕ) (d : Counts) → Stepping cap cs rs fs is ms ss ws c t k → u ≡ None → Spilt cap is ws ws' c d k
-        → Did cap ms ss ws ws' c (On d) (allocate_blocked (stepping n m cs rs fs is ms ss cap) (state_of cap ws c) k)
+        → Did cap ms ss ws ws' c (Ok d) (allocate_blocked (stepping n m cs rs fs is ms ss cap) (state_of cap ws c) k)
     unfolding allocate_blocked blocked_by
     unmentioned ws' d h i s =
         let v : first_use ms (piece (state_of cap ws c) k) ≡ None = sym e ∙ i in
         rw (v, spill_narrow (stepping n m cs rs fs is ms ss cap) (state_of cap ws c) k)
-        (did cap ms ss ws ws' c (On d) _ (spilt_does cap is ms ss ws ws' c d k m.strategy (stepping_held h) s))
+        (did cap ms ss ws ws' c (Ok d) _ (spilt_does cap is ms ss ws ws' c d k m.strategy (stepping_held h) s))
 
     pub mentioned : (ws' : List ℕ) (f : ℕ) (z : Turn) → u ≡ Some f → Did cap ms ss ws ws' c z (blocked_by (stepping n m cs rs fs is ms ss cap) (state_of cap ws c) k (Some f))
         → Did cap ms ss ws ws' c z (allocate_blocked (stepping n m cs rs fs is ms ss cap) (state_of cap ws c) k)

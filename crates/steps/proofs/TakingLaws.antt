@@ -1,6 +1,6 @@
 -- A register that is taken in the work area is taken in the rules.
 -- Assumes nothing.
-use Rattle.std.specs.Prelude.{Option, None, Some}
+use Rattle.std.specs.Prelude.{Option, None, Some, Ok, Err}
 use Prim.Native.Nat.{ℕ, ◌+◌, ◌≤◌, ◌<◌}
 use mathlib.Core.Path.{◌≡◌, refl, sym, ◌∙◌}
 use mathlib.Core.Bool.{Bool, true, false}
@@ -8,8 +8,8 @@ use mathlib.Core.List.{List, [], ◌∷◌, ◌++◌}
 use native.Mathlib.Omega.{arith}
 use lib.ListN.{length}
 use Rattle.words.specs.Packed.{part}
-use Rattle.rules.specs.declared.Answer.{Answer}
-use Rattle.rules.specs.declared.Answer.TheVariants.{FixedClash}
+use Rattle.rules.specs.declared.Refusal.{Refusal}
+use Rattle.rules.specs.declared.Refusal.TheVariants.{FixedClash}
 use Rattle.rules.specs.declared.Mode.{Mode}
 use Rattle.rules.specs.declared.Piece.{Piece}
 use Rattle.rules.specs.declared.Place.TheVariants.{Register}
@@ -24,8 +24,7 @@ use Rattle.rules.specs.Steps.{take_register, cut_at, cut_before, spill_holder}
 use Rattle.store.specs.declared.Counts.{Counts}
 use Rattle.store.specs.StateOf.{state_of, After, Got}
 use Rattle.store.proofs.StateLaws.{records_are}
-use Rattle.split.specs.declared.Turn.{Turn}
-use Rattle.split.specs.declared.Turn.TheVariants.{On, Off}
+use Rattle.split.specs.Turns.{Turn}
 use Rattle.split.specs.Fit.{Fit}
 use Rattle.split.specs.Turns.{cutting, outcome_of, Held, HeldOf, Turned, on, off, Does}
 use Rattle.split.proofs.FitLaws.{fit_put}
@@ -83,7 +82,7 @@ module _ (cap : ℕ) (is ms ss : List ℕ) where
 
     -- 13: the piece has a mention at b
     pub clash : (b : ℕ) (q : Piece) (t : Bool) → HeldOf cap is ms ss ws c k → Got cap ws c k q → t ≡ is_point b (mention_points (part q.mentions ms)) → t ≡ true
-        → Does cap ms ss ws ws c (Off (FixedClash k)) (cut_before (placing m is ms ss cap) (state_of cap ws c) k (At b))
+        → Does cap ms ss ws ws c (Err (FixedClash k)) (cut_before (placing m is ms ss cap) (state_of cap ws c) k (At b))
     unfolding outcome_of cut_before
     clash b q t h g e y =
         let e' : is_point b (mention_points (part q.mentions ms)) ≡ true = sym e ∙ y in record { meets = sym (rw (← g.is, e')); turned = off _; long = refl }
@@ -98,11 +97,11 @@ module _ (cap : ℕ) (is ms ss : List ℕ) where
         record { meets = rw (← g.is, e', ← f) d.meets; turned = d.turned; long = d.long }
 
     -- no fragment starts in the piece
-    pub uncut_blocked : (b : Pos) → HeldOf cap is ms ss ws c k → b ≡ Blocked → Does cap ms ss ws ws c (On c) (cut_before (placing m is ms ss cap) (state_of cap ws c) k b)
+    pub uncut_blocked : (b : Pos) → HeldOf cap is ms ss ws c k → b ≡ Blocked → Does cap ms ss ws ws c (Ok c) (cut_before (placing m is ms ss cap) (state_of cap ws c) k b)
     unfolding cut_before
     uncut_blocked b h e = stays cap ms ss ws c k _ (of_held ws c k h) (rw e)
 
-    pub uncut_never : (b : Pos) → HeldOf cap is ms ss ws c k → b ≡ Never → Does cap ms ss ws ws c (On c) (cut_before (placing m is ms ss cap) (state_of cap ws c) k b)
+    pub uncut_never : (b : Pos) → HeldOf cap is ms ss ws c k → b ≡ Never → Does cap ms ss ws ws c (Ok c) (cut_before (placing m is ms ss cap) (state_of cap ws c) k b)
     unfolding cut_before
     uncut_never b h e = stays cap ms ss ws c k _ (of_held ws c k h) (rw e)
 
@@ -112,7 +111,7 @@ module _ (cap : ℕ) (is ms ss : List ℕ) where
 
   -- nobody held the register, or its holder is spilled
   module _ (y : Strategy) (ws : List ℕ) (c : Counts) (S : ℕ) (h : Option ℕ) where
-    pub unheld : Holding cap is ms ss ws c h → h ≡ None → Does cap ms ss ws ws c (On c) (spill_holder (cutting y is ms ss cap) (state_of cap ws c) S h)
+    pub unheld : Holding cap is ms ss ws c h → h ≡ None → Does cap ms ss ws ws c (Ok c) (spill_holder (cutting y is ms ss cap) (state_of cap ws c) S h)
     unfolding outcome_of spill_holder
     unheld t e =
         record { meets = rw e; turned = on c (record { ready = t.ready; fit = t.fit; records = omega arith; intervals = refl; slack = omega arith }); long = refl }
@@ -143,10 +142,10 @@ module _ (cap : ℕ) (is ms ss : List ℕ) where
       }
 
   -- a turn that ended, and is matched on
-  pub ended_stays : (ws : List ℕ) (c e : Counts) (x : Turn) → Ended cap ms ss ws c x → x ≡ On e → Stays cap ms ss ws c e
+  pub ended_stays : (ws : List ℕ) (c e : Counts) (x : Turn) → Ended cap ms ss ws c x → x ≡ Ok e → Stays cap ms ss ws c e
   ended_stays ws c e x h o = go x h o
     where
-      go : (t : Turn) → Ended cap ms ss ws c t → t ≡ On e → Stays cap ms ss ws c e
+      go : (t : Turn) → Ended cap ms ss ws c t → t ≡ Ok e → Stays cap ms ss ws c e
       go t (ended d w) f = let same : d ≡ e = cc in rw same at w
       go t (refused a) f = let z : ◌≡◌ {A = ℕ} 0 1 = cc in absurd (omega arith)
 
@@ -155,14 +154,14 @@ module _ (cap : ℕ) (is ms ss : List ℕ) where
     over_popping t = record { ready = t.ready; fit = t.fit; inside = t.inside; rows = t.rows; room = t.room }
 
     -- the holder is still a record
-    pub over_holding : (e : Counts) (o : Outcome) → TakesOver cap is ms ss ws c k S h → Did cap ms ss ws ws₁ c x o → x ≡ On e → Holding cap is ms ss ws₁ e h
+    pub over_holding : (e : Counts) (o : Outcome) → TakesOver cap is ms ss ws c k S h → Did cap ms ss ws ws₁ c x o → x ≡ Ok e → Holding cap is ms ss ws₁ e h
     over_holding e o t v i =
         let w = ended_stays ws₁ c e x v.ends i in
         record { ready = w.ready; fit = w.fit; rows = w.intervals ∙ t.rows; inside = λ j z. omega (arith, t.held j z, w.records) }
 
     -- the record took the register, was cut, and the holder was spilled
     pub taken_over : (ws₂ : List ℕ) (y : Strategy) (e : Counts) (z : Turn) → TakesOver cap is ms ss ws c k S h
-        → Did cap ms ss ws ws₁ c x (cut_before (placing m is ms ss cap) (take_register (state_of cap ws c) k r) k b) → x ≡ On e → y ≡ m.strategy
+        → Did cap ms ss ws ws₁ c x (cut_before (placing m is ms ss cap) (take_register (state_of cap ws c) k r) k b) → x ≡ Ok e → y ≡ m.strategy
         → Does cap ms ss ws₁ ws₂ e z (spill_holder (cutting y is ms ss cap) (state_of cap ws₁ e) S h)
         → Did cap ms ss ws ws₂ c z (take_over_at (placing m is ms ss cap) (state_of cap ws c) k r b h)
     unfolding outcome_of
@@ -176,8 +175,8 @@ module _ (cap : ℕ) (is ms ss : List ℕ) where
         }
 
     -- or it was refused
-    pub over_off : (a : Answer) → Did cap ms ss ws ws₁ c x (cut_before (placing m is ms ss cap) (take_register (state_of cap ws c) k r) k b) → x ≡ Off a
-        → Did cap ms ss ws ws₁ c (Off a) (take_over_at (placing m is ms ss cap) (state_of cap ws c) k r b h)
+    pub over_off : (a : Refusal) → Did cap ms ss ws ws₁ c x (cut_before (placing m is ms ss cap) (take_register (state_of cap ws c) k r) k b) → x ≡ Err a
+        → Did cap ms ss ws ws₁ c (Err a) (take_over_at (placing m is ms ss cap) (state_of cap ws c) k r b h)
     unfolding outcome_of
     over_off a v i =
         let g : cut_before (placing m is ms ss cap) (take_register (state_of cap ws c) k r) k b ≡ stops a = sym v.meets ∙ rw i in

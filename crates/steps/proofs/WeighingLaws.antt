@@ -1,6 +1,6 @@
 -- What is weighed in the work area is what the rules weigh.
 -- Assumes nothing.
-use Rattle.std.specs.Prelude.{Option, None, Some}
+use Rattle.std.specs.Prelude.{Option, None, Some, Err}
 use Prim.Native.Nat.{ℕ, ◌+◌, ◌≤◌, ◌<◌}
 use mathlib.Core.Path.{◌≡◌, refl, sym, ap, ◌∙◌}
 use mathlib.Core.Bool.{Bool, true, false}
@@ -12,9 +12,9 @@ use lib.Seq.{drop-cons}
 use lib.Dec.{eqb}
 use borrow.Author.Tests.{eq-eqb, ne_eqb}
 use Rattle.words.specs.Choose.{choose}
-use Rattle.rules.specs.declared.Answer.TheVariants.{OutOfRegisters}
-use Rattle.rules.specs.declared.Choice.{Choice}
-use Rattle.rules.specs.declared.Choice.TheVariants.{AllBlocked, Take}
+use Rattle.rules.specs.declared.Refusal.TheVariants.{OutOfRegisters}
+use Rattle.rules.specs.Steps.{Choice}
+use Rattle.std.specs.Prelude.{None, Some}
 use Rattle.rules.specs.declared.Mode.{Mode}
 use Rattle.rules.specs.declared.Piece.{Piece}
 use Rattle.rules.specs.declared.Place.{Place}
@@ -29,16 +29,15 @@ use Rattle.store.specs.declared.Counts.{Counts}
 use Rattle.store.specs.StateOf.{state_of, Ready, Got, GotActive}
 use Rattle.store.proofs.StateLaws.{active_are}
 use Rattle.choice.specs.Row.{pos_in}
-use Rattle.split.specs.declared.Turn.{Turn}
-use Rattle.split.specs.declared.Turn.TheVariants.{Off}
+use Rattle.split.specs.Turns.{Turn}
 use Rattle.split.specs.Turns.{cutting, outcome_of, HeldOf, Does, off, split_then_spill}
 use Rattle.split.proofs.NarrowLaws.{until_any}
 use Rattle.steps.specs.Stepping.{placing, Popping, HolderOf, take_over_at, weigh_by, Chosen, Did}
 use Rattle.steps.proofs.TakingLaws.{did}
 
 -- a register that is chosen is one of 64
-pub in_range : (x : Choice) (r : ℕ) (p : Pos) → Chosen x → x ≡ Take r p → r < 64
-in_range x r p h e = h.below r p e
+pub in_range : (x : Choice) (e : RegPos) → Chosen x → x ≡ Some e → e.register < 64
+in_range x e h i = h.below e i
 
 -- the start of the piece that was read
 pub started : (cap : ℕ) (ws : List ℕ) (c : Counts) (k : ℕ) (q : Piece) → Got cap ws c k q → q.start ≡ (piece (state_of cap ws c) k).start
@@ -85,7 +84,7 @@ module _ (cap : ℕ) (is ms ss : List ℕ) where
   -- ---- own spill
   module _ (ws : List ℕ) (c : Counts) (k f : ℕ) (q : Piece) where
     -- 12
-    pub out_of_registers : HeldOf cap is ms ss ws c k → Got cap ws c k q → f ≡ q.start → Does cap ms ss ws ws c (Off (OutOfRegisters k)) (spill_until (cutting From is ms ss cap) (state_of cap ws c) k f)
+    pub out_of_registers : HeldOf cap is ms ss ws c k → Got cap ws c k q → f ≡ q.start → Does cap ms ss ws ws c (Err (OutOfRegisters k)) (spill_until (cutting From is ms ss cap) (state_of cap ws c) k f)
     unfolding outcome_of spill_until
     out_of_registers h g e = record { meets = sym (rw (eq-eqb f (piece (state_of cap ws c) k).start (rw (← g.is) e))); turned = off _; long = refl }
 
@@ -105,18 +104,18 @@ module _ (cap : ℕ) (is ms ss : List ℕ) where
 
     -- ---- the weighing
     module _ (ws' : List ℕ) (f : ℕ) (B : List Pos) (x : Choice) (z : Turn) where
-      pub all_blocked : x ≡ AllBlocked → Does cap ms ss ws ws' c z (spill_until (cutting From is ms ss cap) (state_of cap ws c) k f)
+      pub all_blocked : x ≡ None → Does cap ms ss ws ws' c z (spill_until (cutting From is ms ss cap) (state_of cap ws c) k f)
           → Did cap ms ss ws ws' c z (weigh_by (placing m is ms ss cap) (state_of cap ws c) k f (pos_in B) x)
       unfolding weigh_by
       all_blocked e d = rw (e, until_any (placing m is ms ss cap) (state_of cap ws c) k f) (did cap ms ss ws ws' c z _ d)
 
-      module _ (r : ℕ) (p : Pos) (t : Bool) (e : x ≡ Take r p) (i : t ≡ below (At f) p) where
+      module _ (y : RegPos) (t : Bool) (e : x ≡ Some y) (i : t ≡ below (At f) y.pos) where
         pub weighed_own : t ≡ false → Does cap ms ss ws ws' c z (spill_until (cutting From is ms ss cap) (state_of cap ws c) k f)
             → Did cap ms ss ws ws' c z (weigh_by (placing m is ms ss cap) (state_of cap ws c) k f (pos_in B) x)
         unfolding weigh_by
         weighed_own o d = rw (e, ← i, o, until_any (placing m is ms ss cap) (state_of cap ws c) k f) (did cap ms ss ws ws' c z _ d)
 
-        pub weighed_steal : (b : Pos) → t ≡ true → b ≡ pos_in B r → Did cap ms ss ws ws' c z (take_over_at (placing m is ms ss cap) (state_of cap ws c) k r b (holder (state_of cap ws c) r))
+        pub weighed_steal : (b : Pos) → t ≡ true → b ≡ pos_in B y.register → Did cap ms ss ws ws' c z (take_over_at (placing m is ms ss cap) (state_of cap ws c) k y.register b (holder (state_of cap ws c) y.register))
             → Did cap ms ss ws ws' c z (weigh_by (placing m is ms ss cap) (state_of cap ws c) k f (pos_in B) x)
         unfolding weigh_by
-        weighed_steal b o y d = rw (e, ← i, o, ← y) d
+        weighed_steal b o w d = rw (e, ← i, o, ← w) d

@@ -1,13 +1,13 @@
 -- Facts for contracts: what a step is given, and what the code leans on at the popped record.
-use Rattle.std.specs.Prelude.{ℕ, ◌+◌, ◌≤◌, ◌<◌, ◌≡◌, List, [], ltb, length, Option, None, Some}
+use Rattle.std.specs.Prelude.{ℕ, ◌+◌, ◌≤◌, ◌<◌, ◌≡◌, List, [], ltb, length, Option, None, Some, Ok, Err}
 use Rattle.words.specs.Choose.{choose}
 use Rattle.words.specs.declared.Class.{Class}
 use Rattle.rules.specs.declared.Piece.{Piece}
 use Rattle.rules.specs.Uses.{mention_points, next_use}
 use Rattle.words.specs.Packed.{part, class_at, interval_at, interval_count}
-use Rattle.rules.specs.declared.Answer.{Answer}
-use Rattle.rules.specs.declared.Choice.{Choice}
-use Rattle.rules.specs.declared.Choice.TheVariants.{AllBlocked, Take}
+use Rattle.rules.specs.declared.Refusal.{Refusal}
+use Rattle.rules.specs.Steps.{Choice}
+use Rattle.std.specs.Prelude.{None, Some}
 use Rattle.rules.specs.declared.Mode.{Mode}
 use Rattle.rules.specs.declared.Pos.{Pos}
 use Rattle.rules.specs.declared.Pos.TheVariants.{Blocked, At, Never}
@@ -23,12 +23,8 @@ use Rattle.activity.specs.Fixed.{Fixed}
 use Rattle.activity.specs.Cursors.{Facing}
 use Rattle.steps.specs.declared.Grant.{Grant}
 use Rattle.steps.specs.declared.Grant.TheVariants.{Whole, Part, Refused}
-use Rattle.steps.specs.declared.Tried.{Tried}
-use Rattle.steps.specs.declared.Tried.TheVariants.{Taken}
-use Rattle.steps.specs.declared.Tried.TheVariants as tried
 use Rattle.steps.specs.declared.blocked.Kind.{Kind}
-use Rattle.split.specs.declared.Turn.{Turn}
-use Rattle.split.specs.declared.Turn.TheVariants.{On, Off}
+use Rattle.split.specs.Turns.{Turn}
 use Rattle.choice.specs.Row.{pos_in}
 use Rattle.choice.specs.Holding.{HolderRow, next_pos}
 use Rattle.split.specs.Fit.{Fit}
@@ -125,12 +121,12 @@ take_over_at g s k r b h = go_on (cut_before g (take_register s k r) k b) (λ t.
 
 -- step 4's weighing, where B gives each register its first fragment start
 unfoldable pub weigh_by : Given → State → ℕ → ℕ → (ℕ → Pos) → Choice → Outcome
-weigh_by g s k f B AllBlocked = spill_until g s k f
-weigh_by g s k f B (Take r p) = choose (below (At f) p) (take_over_at g s k r (B r) (holder s r)) (spill_until g s k f)
+weigh_by g s k f B None = spill_until g s k f
+weigh_by g s k f B (Some e) = choose (below (At f) e.pos) (take_over_at g s k e.register (B e.register) (holder s e.register)) (spill_until g s k f)
 
 -- a choice is of a register of 64
 pub record Chosen (x : Choice) : Type 0 where
-  pub below : (r : ℕ) (p : Pos) → x ≡ Take r p → r < 64
+  pub below : (e : RegPos) → x ≡ Some e → e.register < 64
 
 -- the counts d after a step from c: as many intervals, and no record less
 pub record Stays (cap : ℕ) (ms ss ws : List ℕ) (c d : Counts) : Type 0 where
@@ -140,8 +136,8 @@ pub record Stays (cap : ℕ) (ms ss ws : List ℕ) (c d : Counts) : Type 0 where
   pub intervals : d.intervals ≡ c.intervals
 
 pub data Ended (cap : ℕ) (ms ss ws : List ℕ) (c : Counts) : Turn → Type 0 where
-  ended : (d : Counts) → Stays cap ms ss ws c d → Ended cap ms ss ws c (On d)
-  refused : (a : Answer) → Ended cap ms ss ws c (Off a)
+  ended : (d : Counts) → Stays cap ms ss ws c d → Ended cap ms ss ws c (Ok d)
+  refused : (a : Refusal) → Ended cap ms ss ws c (Err a)
 
 -- the turn r is the outcome o of a step, in which a register may have been taken, and leaves the area ready
 pub record Did (cap : ℕ) (ms ss ws ws' : List ℕ) (c : Counts) (r : Turn) (o : Outcome) : Type 0 where
@@ -175,7 +171,7 @@ pub record Weighing (cap : ℕ) (is ms ss ws : List ℕ) (c : Counts) (k i : ℕ
 pub record Weighed (cap : ℕ) (m : Mode) (is ms ss ws ws' : List ℕ) (c : Counts) (k f S : ℕ) (x : Class) (B : List Pos) (z : Turn) : Type 0 where
   pub next : List Pos
   pub held : HolderRow (next_pos ms (state_of cap ws c) S B) (state_of cap ws c) x.first x.count next
-  pub did : Did cap ms ss ws ws' c z (weigh_by (placing m is ms ss cap) (state_of cap ws c) k f (pos_in B) (furthest (pos_in next) x.scratch x.first x.count AllBlocked))
+  pub did : Did cap ms ss ws ws' c z (weigh_by (placing m is ms ss cap) (state_of cap ws c) k f (pos_in B) (furthest (pos_in next) x.scratch x.first x.count None))
 
 -- record k can be split, and what is left of it take a register
 pub record Parting (cap : ℕ) (ms ss ws : List ℕ) (c : Counts) (k : ℕ) : Type 0 where
@@ -194,23 +190,26 @@ take_part ms ss cap s k r p = go_on (split_and_queue (cutting From [] ms ss cap)
 
 -- ---- steps 2 and 3
 -- up to a partial split, if there is one
-unfoldable pub grant_part : ℕ → Option ℕ → Grant
-grant_part r (Some p) = Part r p
-grant_part r None = Refused
+unfoldable pub grant_part : ℕ → Option ℕ → Option Grant
+grant_part r (Some p) = Some (Part r p)
+grant_part r None = None
 
 -- a register that is free until a: whole where that is after the end
-abbrev pub grant_until : Mode → List ℕ → Piece → ℕ → ℕ → Grant
-grant_until m ms q r a = choose (ltb q.end a) (Whole r) (grant_part r (partial_at m ms q a))
+abbrev pub grant_until : Mode → List ℕ → Piece → ℕ → ℕ → Option Grant
+grant_until m ms q r a = choose (ltb q.end a) (Some (Whole r)) (grant_part r (partial_at m ms q a))
 
 -- what a piece gets of the register that was chosen
-unfoldable pub grant_of : Mode → List ℕ → Piece → Choice → Grant
-grant_of m ms q AllBlocked = Refused
-grant_of m ms q (Take r Blocked) = Refused
-grant_of m ms q (Take r (At a)) = grant_until m ms q r a
-grant_of m ms q (Take r Never) = Whole r
+unfoldable pub grant_at : Mode → List ℕ → Piece → ℕ → Pos → Option Grant
+grant_at m ms q r Blocked = None
+grant_at m ms q r (At a) = grant_until m ms q r a
+grant_at m ms q r Never = Some (Whole r)
+
+unfoldable pub grant_of : Mode → List ℕ → Piece → Choice → Option Grant
+grant_of m ms q None = None
+grant_of m ms q (Some e) = grant_at m ms q e.register e.pos
 
 -- the chosen register was tried for record k: taken as the rules say, whatever the other tables are, or step 4 is due
 pub record Tries (cap : ℕ) (m : Mode) (ms ss ws ws' : List ℕ) (c : Counts) (k : ℕ) (x : Choice) (t : Tried) : Type 0 where
-  pub taken : (n : ℕ) (cs rs fs is : List ℕ) (z : Turn) → t ≡ Taken z → Did cap ms ss ws ws' c z (try_take (stepping n m cs rs fs is ms ss cap) (state_of cap ws c) k x)
-  pub blocked : (n : ℕ) (cs rs fs is : List ℕ) → t ≡ tried.Blocked → try_take (stepping n m cs rs fs is ms ss cap) (state_of cap ws c) k x ≡ allocate_blocked (stepping n m cs rs fs is ms ss cap) (state_of cap ws c) k
-  pub kept : t ≡ tried.Blocked → ws' ≡ ws
+  pub taken : (n : ℕ) (cs rs fs is : List ℕ) (z : Turn) → t ≡ Some z → Did cap ms ss ws ws' c z (try_take (stepping n m cs rs fs is ms ss cap) (state_of cap ws c) k x)
+  pub blocked : (n : ℕ) (cs rs fs is : List ℕ) → t ≡ None → try_take (stepping n m cs rs fs is ms ss cap) (state_of cap ws c) k x ≡ allocate_blocked (stepping n m cs rs fs is ms ss cap) (state_of cap ws c) k
+  pub kept : t ≡ None → ws' ≡ ws

@@ -5,9 +5,9 @@ ghost use Rattle.store.specs.StateOf.{Ready, state_of};
 ghost use Rattle.split.specs.Turns.{Held};
 ghost use Rattle.steps.specs.Stepping.{Parting, Tries, grant_of, grant_until, partial_at, take_part, Did};
 
-use crate::{Grant, Tried, taking};
-use rules::{Choice, Mode, Pos};
-use split::{Turn, splits};
+use crate::{Grant, taking};
+use rules::{Mode, Pos, Refusal, RegPos};
+use split::splits;
 use store::{Counts, state};
 
 // Record k ends before a.
@@ -49,15 +49,12 @@ fn take_part(
     k: usize,
     r: u16,
     p: u16,
-) -> Turn
+) -> Result<Counts, Refusal>
     requires { Parting cap mentions.now safepoints.now work.old counts k }
     ensures { Did cap mentions.now safepoints.now work.old work.new counts result (take_part mentions.now safepoints.now cap (state_of cap work.old counts) k r p) }
 {
-    let parted = splits::split_and_queue(mentions, safepoints, work, cap, counts, k, p);
-    match parted {
-        Turn::On(c) => Turn::On(taking::take_register(work, cap, c, k, r)),
-        Turn::Off(x) => Turn::Off(x),
-    }
+    let parted = splits::split_and_queue(mentions, safepoints, work, cap, counts, k, p)?;
+    Ok(taking::take_register(work, cap, parted, k, r))
 }
 
 // The register is free until a: granted whole where that is after the end, else up to a partial split, if there is one.
@@ -71,17 +68,15 @@ fn granted_until(
     k: usize,
     r: u16,
     a: u16,
-) -> Grant
+) -> Option<Grant>
     requires { Held cap mentions.now safepoints.now work.now counts k }
     ensures { result ≡ grant_until mode mentions.now (piece (state_of cap work.now counts) k) r a }
 {
     if ends_before(work, cap, counts, k, a) {
-        return Grant::Whole(r);
+        return Some(Grant::Whole(r));
     }
-    let Some(p) = partial_at(mode, mentions, safepoints, work, cap, counts, k, a) else {
-        return Grant::Refused;
-    };
-    Grant::Part { register: r, at: p }
+    let at = partial_at(mode, mentions, safepoints, work, cap, counts, k, a)?;
+    Some(Grant::Part { register: r, at })
 }
 
 // What record k gets of the register that is free the longest.
@@ -93,20 +88,18 @@ fn granted(
     cap: usize,
     counts: Counts,
     k: usize,
-    choice: Choice,
-) -> Grant
+    choice: Option<RegPos>,
+) -> Option<Grant>
     requires { Held cap mentions.now safepoints.now work.now counts k }
     ensures { result ≡ grant_of mode mentions.now (piece (state_of cap work.now counts) k) choice }
 {
-    let Choice::Take { register, pos } = choice else {
-        return Grant::Refused;
-    };
-    match pos {
-        Pos::Blocked => Grant::Refused,
+    let longest = choice?;
+    match longest.pos {
+        Pos::Blocked => None,
         Pos::At(a) => granted_until(
-            mode, mentions, safepoints, work, cap, counts, k, register, a,
+            mode, mentions, safepoints, work, cap, counts, k, longest.register, a,
         ),
-        Pos::Never => Grant::Whole(register),
+        Pos::Never => Some(Grant::Whole(longest.register)),
     }
 }
 
@@ -119,17 +112,15 @@ pub fn try_allocate_reg(
     cap: usize,
     counts: Counts,
     k: usize,
-    choice: Choice,
-) -> Tried
+    choice: Option<RegPos>,
+) -> Option<Result<Counts, Refusal>>
     requires { Parting cap mentions.now safepoints.now work.old counts k }
     ensures { Tries cap mode mentions.now safepoints.now work.old work.new counts k choice result }
 {
-    let grant = granted(mode, mentions, safepoints, work, cap, counts, k, choice);
-    match grant {
-        Grant::Whole(r) => Tried::Taken(Turn::On(taking::take_register(work, cap, counts, k, r))),
-        Grant::Part { register, at } => Tried::Taken(take_part(
+    match granted(mode, mentions, safepoints, work, cap, counts, k, choice)? {
+        Grant::Whole(r) => Some(Ok(taking::take_register(work, cap, counts, k, r))),
+        Grant::Part { register, at } => Some(take_part(
             mentions, safepoints, work, cap, counts, k, register, at,
         )),
-        Grant::Refused => Tried::Blocked,
     }
 }

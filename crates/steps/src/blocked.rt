@@ -1,7 +1,6 @@
 // Step 4: no register is free for long enough.
 ghost use Rattle.std.specs.Prelude.{◌≡◌, ℕ, ◌+◌, ◌*◌, ◌<◌, ◌≤◌, length, replicate, Some};
 ghost use Rattle.words.specs.Packed.{class_at, interval_at, interval_count};
-ghost use Rattle.rules.specs.declared.Choice.TheVariants.{AllBlocked};
 ghost use Rattle.rules.specs.declared.Pos.TheVariants.{Never};
 ghost use Rattle.rules.specs.State.{piece};
 ghost use Rattle.rules.specs.Steps as rule;
@@ -14,8 +13,8 @@ ghost use Rattle.steps.specs.Stepping.{first_use, stepping, class_for, Stepping,
 use crate::weighing;
 use activity::Tracker;
 use choice::{held, positions, rows};
-use rules::{Answer, Choice, Mode, Pos};
-use split::{Turn, spills};
+use rules::{Mode, Pos, Refusal, RegPos};
+use split::spills;
 use store::{Counts, state};
 use words::{Class, read};
 
@@ -62,10 +61,10 @@ fn block_row(
 }
 
 // Next-use positions by register, held by class, and the furthest of them.
-fn furthest_use(row: [Pos; 64], c: usize, class: Class) -> Choice
+fn furthest_use(row: [Pos; 64], c: usize, class: Class) -> Option<RegPos>
     requires c_bound { c < 8 }
     requires count_bound { class.first + class.count ≤ 64 }
-    ensures { result ≡ rule.furthest (pos_in row) class.scratch class.first class.count AllBlocked }
+    ensures { result ≡ rule.furthest (pos_in row) class.scratch class.first class.count None }
 {
     let mut next = rows::never_rows();
     next[c] = row;
@@ -93,7 +92,7 @@ fn weigh_uses(
     c: usize,
     class: Class,
     block: [Pos; 64],
-) -> Turn
+) -> Result<Counts, Refusal>
     requires { Weighing cap intervals.now mentions.now safepoints.now work.old counts k c class }
     ensures { Weighed cap mode intervals.now mentions.now safepoints.now work.old work.new counts k f start class block result }
 {
@@ -124,7 +123,7 @@ fn steal_or_spill(
     f: u16,
     c: usize,
     class: Class,
-) -> Turn
+) -> Result<Counts, Refusal>
     requires { Contending cap classes.now registers.now fragments.now intervals.now mentions.now safepoints.now work.old counts tracker k c class }
     ensures { Did cap mentions.now safepoints.now work.old work.new counts result (rule.weigh (stepping instructions mode classes.now registers.now fragments.now intervals.now mentions.now safepoints.now cap) (state_of cap work.old counts) k f (rule.furthest_of (class_for classes.now intervals.now (state_of cap work.old counts) k) (rule.next_use_pos (stepping instructions mode classes.now registers.now fragments.now intervals.now mentions.now safepoints.now cap) (state_of cap work.old counts) (piece (state_of cap work.old counts) k)))) }
 {
@@ -182,14 +181,14 @@ fn contend(
     tracker: Tracker,
     k: usize,
     f: u16,
-) -> Turn
+) -> Result<Counts, Refusal>
     requires { Stepping cap classes.now registers.now fragments.now intervals.now mentions.now safepoints.now work.old counts tracker k }
     ensures { Did cap mentions.now safepoints.now work.old work.new counts result (rule.blocked_by (stepping instructions mode classes.now registers.now fragments.now intervals.now mentions.now safepoints.now cap) (state_of cap work.old counts) k (Some f)) }
 {
     let kind = kind_of(classes, intervals, work, cap, counts, k);
     let class = kind.class;
     if class.count <= 1 {
-        return Turn::Off(Answer::NoRegister(k as u16));
+        return Err(Refusal::NoRegister(k as u16));
     }
     steal_or_spill(
         mode,
@@ -243,12 +242,12 @@ pub fn allocate_blocked_reg(
     counts: Counts,
     tracker: Tracker,
     k: usize,
-) -> Turn
+) -> Result<Counts, Refusal>
     requires { Stepping cap classes.now registers.now fragments.now intervals.now mentions.now safepoints.now work.old counts tracker k }
     ensures { Did cap mentions.now safepoints.now work.old work.new counts result (rule.allocate_blocked (stepping instructions mode classes.now registers.now fragments.now intervals.now mentions.now safepoints.now cap) (state_of cap work.old counts) k) }
 {
     let Some(f) = first_use(mentions, safepoints, work, cap, counts, k) else {
-        return Turn::On(spills::spill(intervals, work, cap, counts, k));
+        return Ok(spills::spill(intervals, work, cap, counts, k));
     };
     contend(
         mode,

@@ -1,8 +1,6 @@
 // Steps 2 to 4 of document 01 for the popped record, over the work area: `try_allocate_reg` and `allocate_blocked_reg` of the Rust module.
 #![tactic(auto)]
 
-use split::Turn;
-
 pub mod allocate;
 pub mod blocked;
 mod holders;
@@ -14,12 +12,4 @@ mod weighing;
 enum Grant {
     Whole(u16),
     Part { register: u16, at: u16 },
-    Refused,
-}
-
-// A register was taken, whole or for a part; or step 4 is due.
-#[derive(Clone, Copy)]
-pub enum Tried {
-    Taken(Turn),
-    Blocked,
 }

@@ -5,8 +5,8 @@ ghost use Rattle.store.specs.StateOf.{state_of};
 ghost use Rattle.split.specs.Turns.{cutting, HeldOf, Does};
 ghost use Rattle.steps.specs.Stepping.{placing, Popping, Taking, Took, Holding, TakesOver, take_over_at, Did};
 
-use rules::{Answer, Mode, Place, Pos, Strategy};
-use split::{Turn, spills, splits};
+use rules::{Mode, Place, Pos, Refusal, Strategy};
+use split::{spills, splits};
 use store::{Counts, state};
 
 // Record k takes register r, and is active.
@@ -36,7 +36,7 @@ fn cut_at(
     k: usize,
     b: u16,
     place: Option<u16>,
-) -> Turn
+) -> Result<Counts, Refusal>
     requires { HeldOf cap intervals.now mentions.now safepoints.now work.old counts k }
     ensures { Does cap mentions.now safepoints.now work.old work.new counts result (cut_at (placing mode intervals.now mentions.now safepoints.now cap) (state_of cap work.old counts) k b place) }
 {
@@ -60,14 +60,14 @@ fn clash_or_cut(
     counts: Counts,
     k: usize,
     b: u16,
-) -> Turn
+) -> Result<Counts, Refusal>
     requires { HeldOf cap intervals.now mentions.now safepoints.now work.old counts k }
     ensures { Does cap mentions.now safepoints.now work.old work.new counts result (cut_before (placing mode intervals.now mentions.now safepoints.now cap) (state_of cap work.old counts) k (At b)) }
 {
     let q = state::piece(work, cap, counts, k);
     let range = q.mentions;
     if uses::mentions::is_mention_point(mentions, range, b) {
-        return Turn::Off(Answer::FixedClash(k as u16));
+        return Err(Refusal::FixedClash(k as u16));
     }
     let place = uses::places::partial_place(mode, q.start, mentions, range, b);
     cut_at(
@@ -86,13 +86,13 @@ fn cut_before(
     counts: Counts,
     k: usize,
     block: Pos,
-) -> Turn
+) -> Result<Counts, Refusal>
     requires { HeldOf cap intervals.now mentions.now safepoints.now work.old counts k }
     ensures { Does cap mentions.now safepoints.now work.old work.new counts result (cut_before (placing mode intervals.now mentions.now safepoints.now cap) (state_of cap work.old counts) k block) }
 {
     match block {
-        Pos::Blocked => Turn::On(counts),
-        Pos::Never => Turn::On(counts),
+        Pos::Blocked => Ok(counts),
+        Pos::Never => Ok(counts),
         Pos::At(b) => clash_or_cut(
             mode, intervals, mentions, safepoints, work, cap, counts, k, b,
         ),
@@ -110,12 +110,12 @@ fn spill_holder(
     counts: Counts,
     start: u16,
     holder: Option<u16>,
-) -> Turn
+) -> Result<Counts, Refusal>
     requires { Holding cap intervals.now mentions.now safepoints.now work.old counts holder }
     ensures { Does cap mentions.now safepoints.now work.old work.new counts result (spill_holder (cutting strategy intervals.now mentions.now safepoints.now cap) (state_of cap work.old counts) start holder) }
 {
     match holder {
-        None => Turn::On(counts),
+        None => Ok(counts),
         Some(h) => spills::split_and_spill(
             strategy, intervals, mentions, safepoints, work, cap, counts, h as usize, start,
         ),
@@ -134,7 +134,7 @@ fn take_and_cut(
     k: usize,
     r: u16,
     block: Pos,
-) -> Turn
+) -> Result<Counts, Refusal>
     requires { Popping cap intervals.now mentions.now safepoints.now work.old counts k }
     ensures { Did cap mentions.now safepoints.now work.old work.new counts result (cut_before (placing mode intervals.now mentions.now safepoints.now cap) (take_register (state_of cap work.old counts) k r) k block) }
 {
@@ -158,18 +158,14 @@ pub(crate) fn take_over(
     start: u16,
     block: Pos,
     holder: Option<u16>,
-) -> Turn
+) -> Result<Counts, Refusal>
     requires { TakesOver cap intervals.now mentions.now safepoints.now work.old counts k start holder }
     ensures { Did cap mentions.now safepoints.now work.old work.new counts result (take_over_at (placing mode intervals.now mentions.now safepoints.now cap) (state_of cap work.old counts) k r block holder) }
 {
     let cut = take_and_cut(
         mode, intervals, mentions, safepoints, work, cap, counts, k, r, block,
-    );
-    let strategy = mode.strategy;
-    match cut {
-        Turn::On(c) => spill_holder(
-            strategy, intervals, mentions, safepoints, work, cap, c, start, holder,
-        ),
-        Turn::Off(a) => Turn::Off(a),
-    }
+    )?;
+    spill_holder(
+        mode.strategy, intervals, mentions, safepoints, work, cap, cut, start, holder,
+    )
 }

@@ -8,8 +8,8 @@ ghost use Rattle.steps.specs.Stepping.{placing, Popping, take_over_at, weigh_by,
 
 use crate::{holders, taking};
 use choice::positions;
-use rules::{Answer, Choice, Mode, Pos};
-use split::{Turn, spilling};
+use rules::{Mode, Pos, Refusal, RegPos};
+use split::spilling;
 use store::{Counts, state};
 
 // 12 where the first use f is the start, else the piece is spilled up to it.
@@ -22,13 +22,13 @@ fn spill_until(
     counts: Counts,
     k: usize,
     f: u16,
-) -> Turn
+) -> Result<Counts, Refusal>
     requires { HeldOf cap intervals.now mentions.now safepoints.now work.old counts k }
     ensures { Does cap mentions.now safepoints.now work.old work.new counts result (spill_until (cutting From intervals.now mentions.now safepoints.now cap) (state_of cap work.old counts) k f) }
 {
     let q = state::piece(work, cap, counts, k);
     if f == q.start {
-        return Turn::Off(Answer::OutOfRegisters(k as u16));
+        return Err(Refusal::OutOfRegisters(k as u16));
     }
     spilling::split_then_spill(intervals, mentions, safepoints, work, cap, counts, k, f)
 }
@@ -45,7 +45,7 @@ fn steal(
     k: usize,
     r: u16,
     b: Pos,
-) -> Turn
+) -> Result<Counts, Refusal>
     requires { Popping cap intervals.now mentions.now safepoints.now work.old counts k }
     ensures { Did cap mentions.now safepoints.now work.old work.new counts result (take_over_at (placing mode intervals.now mentions.now safepoints.now cap) (state_of cap work.old counts) k r b (holder (state_of cap work.old counts) r)) }
 {
@@ -69,23 +69,20 @@ pub(crate) fn weigh(
     k: usize,
     f: u16,
     block: [Pos; 64],
-    choice: Choice,
-) -> Turn
+    choice: Option<RegPos>,
+) -> Result<Counts, Refusal>
     requires popping { Popping cap intervals.now mentions.now safepoints.now work.old counts k }
     requires chosen { Chosen choice }
     ensures { Did cap mentions.now safepoints.now work.old work.new counts result (weigh_by (placing mode intervals.now mentions.now safepoints.now cap) (state_of cap work.old counts) k f (pos_in block) choice) }
 {
-    match choice {
-        Choice::AllBlocked => spill_until(intervals, mentions, safepoints, work, cap, counts, k, f),
-        Choice::Take { register, pos } => {
-            if positions::below_of(Pos::At(f), pos) {
-                let r = register as usize;
-                let b = block[r];
-                return steal(
-                    mode, intervals, mentions, safepoints, work, cap, counts, k, register, b,
-                );
-            }
-            spill_until(intervals, mentions, safepoints, work, cap, counts, k, f)
-        }
+    let Some(furthest) = choice else {
+        return spill_until(intervals, mentions, safepoints, work, cap, counts, k, f);
+    };
+    if positions::below_of(Pos::At(f), furthest.pos) {
+        let b = block[furthest.register as usize];
+        return steal(
+            mode, intervals, mentions, safepoints, work, cap, counts, k, furthest.register, b,
+        );
     }
+    spill_until(intervals, mentions, safepoints, work, cap, counts, k, f)
 }

@@ -1,15 +1,14 @@
 -- Laws of the checks in order: what the earlier checks give to the later, and how the answer is the first refusal.
 -- Assumes nothing.
-use Rattle.std.specs.Prelude.{Option, None, Some}
+use Rattle.std.specs.Prelude.{Option, None, Some, Ok, Err}
 use Prim.Native.Nat.{ℕ, ◌≤◌}
 use mathlib.Core.Path.{◌≡◌, sym, ap, ◌∙◌}
 use mathlib.Core.List.{List}
 use lib.ListN.{length}
 use Rattle.words.specs.Packed.{interval_count}
-use Rattle.rules.specs.declared.Answer.{Answer}
-use Rattle.rules.specs.declared.Answer.TheVariants.{BadClass, BadInterval, BadMention, BadSafepoint, BadFixed}
-use Rattle.rules.specs.declared.Check.{Check}
-use Rattle.rules.specs.declared.Check.TheVariants.{Fine, Refused}
+use Rattle.rules.specs.declared.Refusal.{Refusal}
+use Rattle.rules.specs.declared.Refusal.TheVariants.{BadClass, BadInterval, BadMention, BadSafepoint, BadFixed}
+use Rattle.rules.specs.Answers.{fine, Check}
 use Rattle.rules.specs.Tables.{Tables}
 use Rattle.rules.specs.Sound.{and_then, refuse_at, check_limits, bad_class, bad_interval, bad_mention, bad_safepoint, bad_fixed, check_tables}
 use Rattle.rules.specs.Accepted.{Limits}
@@ -34,23 +33,23 @@ unfoldable pub from_classes : Tables → Check
 from_classes T = and_then (refuse_at BadClass (bad_class T)) (from_intervals T)
 
 -- a find f that is computed as r refuses, or hands on to what is computed as s
-refuses : (mk : ℕ → Answer) (f r : Option ℕ) (rest : Check) (k : ℕ) → r ≡ f → r ≡ Some k → Refused (mk k) ≡ and_then (refuse_at mk f) rest
+refuses : (mk : ℕ → Refusal) (f r : Option ℕ) (rest : Check) (k : ℕ) → r ≡ f → r ≡ Some k → Err (mk k) ≡ and_then (refuse_at mk f) rest
 refuses mk f r rest k e g = simp (← e, g)
 
-hands_on : (mk : ℕ → Answer) (f r : Option ℕ) (rest s : Check) → r ≡ f → r ≡ None → s ≡ rest → s ≡ and_then (refuse_at mk f) rest
+hands_on : (mk : ℕ → Refusal) (f r : Option ℕ) (rest s : Check) → r ≡ f → r ≡ None → s ≡ rest → s ≡ and_then (refuse_at mk f) rest
 hands_on mk f r rest s e g h = simp (← e, g) h
 
 module _ (n : ℕ) (cs rs fs is ms ss : List ℕ) where
   -- the answer of check 3, and of each after it
-  pub limits_refuse : (c : Check) (a : Answer) → c ≡ check_limits (tables n cs rs fs is ms ss) → c ≡ Refused a → Refused a ≡ check_tables (tables n cs rs fs is ms ss)
+  pub limits_refuse : (c : Check) (a : Refusal) → c ≡ check_limits (tables n cs rs fs is ms ss) → c ≡ Err a → Err a ≡ check_tables (tables n cs rs fs is ms ss)
   unfolding check_tables
   limits_refuse c a e f = simp (← e, f)
 
-  pub limits_pass : (c s : Check) → c ≡ check_limits (tables n cs rs fs is ms ss) → c ≡ Fine → s ≡ from_classes (tables n cs rs fs is ms ss) → s ≡ check_tables (tables n cs rs fs is ms ss)
+  pub limits_pass : (c s : Check) → c ≡ check_limits (tables n cs rs fs is ms ss) → c ≡ fine → s ≡ from_classes (tables n cs rs fs is ms ss) → s ≡ check_tables (tables n cs rs fs is ms ss)
   unfolding check_tables from_classes from_intervals from_mentions from_safepoints from_fixed
   limits_pass c s e f g = simp (← e, f) g
 
-  pub class_refuses : (r : Option ℕ) (k : ℕ) → r ≡ bad_class (class_tables cs rs) → r ≡ Some k → Refused (BadClass k) ≡ from_classes (tables n cs rs fs is ms ss)
+  pub class_refuses : (r : Option ℕ) (k : ℕ) → r ≡ bad_class (class_tables cs rs) → r ≡ Some k → Err (BadClass k) ≡ from_classes (tables n cs rs fs is ms ss)
   unfolding from_classes bad_class
   class_refuses r k e f = refuses BadClass (bad_class (tables n cs rs fs is ms ss)) r (from_intervals (tables n cs rs fs is ms ss)) k e f
 
@@ -58,7 +57,7 @@ module _ (n : ℕ) (cs rs fs is ms ss : List ℕ) where
   unfolding from_classes bad_class
   class_passes r s e f g = hands_on BadClass (bad_class (tables n cs rs fs is ms ss)) r (from_intervals (tables n cs rs fs is ms ss)) s e f g
 
-  pub interval_refuses : (r : Option ℕ) (k : ℕ) → r ≡ bad_interval (interval_tables n cs is ms ss) → r ≡ Some k → Refused (BadInterval k) ≡ from_intervals (tables n cs rs fs is ms ss)
+  pub interval_refuses : (r : Option ℕ) (k : ℕ) → r ≡ bad_interval (interval_tables n cs is ms ss) → r ≡ Some k → Err (BadInterval k) ≡ from_intervals (tables n cs rs fs is ms ss)
   unfolding from_intervals bad_interval
   interval_refuses r k e f = refuses BadInterval (bad_interval (tables n cs rs fs is ms ss)) r (from_mentions (tables n cs rs fs is ms ss)) k e f
 
@@ -66,7 +65,7 @@ module _ (n : ℕ) (cs rs fs is ms ss : List ℕ) where
   unfolding from_intervals bad_interval
   interval_passes r s e f g = hands_on BadInterval (bad_interval (tables n cs rs fs is ms ss)) r (from_mentions (tables n cs rs fs is ms ss)) s e f g
 
-  pub mention_refuses : (r : Option ℕ) (k : ℕ) → r ≡ bad_mention (mention_tables is ms) → r ≡ Some k → Refused (BadMention k) ≡ from_mentions (tables n cs rs fs is ms ss)
+  pub mention_refuses : (r : Option ℕ) (k : ℕ) → r ≡ bad_mention (mention_tables is ms) → r ≡ Some k → Err (BadMention k) ≡ from_mentions (tables n cs rs fs is ms ss)
   unfolding from_mentions bad_mention
   mention_refuses r k e f = refuses BadMention (bad_mention (tables n cs rs fs is ms ss)) r (from_safepoints (tables n cs rs fs is ms ss)) k e f
 
@@ -74,7 +73,7 @@ module _ (n : ℕ) (cs rs fs is ms ss : List ℕ) where
   unfolding from_mentions bad_mention
   mention_passes r s e f g = hands_on BadMention (bad_mention (tables n cs rs fs is ms ss)) r (from_safepoints (tables n cs rs fs is ms ss)) s e f g
 
-  pub safepoint_refuses : (r : Option ℕ) (k : ℕ) → r ≡ bad_safepoint (safepoint_tables is ms ss) → r ≡ Some k → Refused (BadSafepoint k) ≡ from_safepoints (tables n cs rs fs is ms ss)
+  pub safepoint_refuses : (r : Option ℕ) (k : ℕ) → r ≡ bad_safepoint (safepoint_tables is ms ss) → r ≡ Some k → Err (BadSafepoint k) ≡ from_safepoints (tables n cs rs fs is ms ss)
   unfolding from_safepoints bad_safepoint
   safepoint_refuses r k e f = refuses BadSafepoint (bad_safepoint (tables n cs rs fs is ms ss)) r (from_fixed (tables n cs rs fs is ms ss)) k e f
 
@@ -82,16 +81,16 @@ module _ (n : ℕ) (cs rs fs is ms ss : List ℕ) where
   unfolding from_safepoints bad_safepoint
   safepoint_passes r s e f g = hands_on BadSafepoint (bad_safepoint (tables n cs rs fs is ms ss)) r (from_fixed (tables n cs rs fs is ms ss)) s e f g
 
-  pub fixed_refuses : (r : Option ℕ) (k : ℕ) → r ≡ bad_fixed (fixed_tables n rs fs) → r ≡ Some k → Refused (BadFixed k) ≡ from_fixed (tables n cs rs fs is ms ss)
+  pub fixed_refuses : (r : Option ℕ) (k : ℕ) → r ≡ bad_fixed (fixed_tables n rs fs) → r ≡ Some k → Err (BadFixed k) ≡ from_fixed (tables n cs rs fs is ms ss)
   unfolding from_fixed bad_fixed
   fixed_refuses r k e f = ap (refuse_at BadFixed) (sym f ∙ e)
 
-  pub fixed_passes : (r : Option ℕ) → r ≡ bad_fixed (fixed_tables n rs fs) → r ≡ None → Fine ≡ from_fixed (tables n cs rs fs is ms ss)
+  pub fixed_passes : (r : Option ℕ) → r ≡ bad_fixed (fixed_tables n rs fs) → r ≡ None → fine ≡ from_fixed (tables n cs rs fs is ms ss)
   unfolding from_fixed bad_fixed
   fixed_passes r e f = ap (refuse_at BadFixed) (sym f ∙ e)
 
   -- what check 3 gives to the later ones
-  module _ (c : Check) (e : c ≡ check_limits (tables n cs rs fs is ms ss)) (f : c ≡ Fine) where
+  module _ (c : Check) (e : c ≡ check_limits (tables n cs rs fs is ms ss)) (f : c ≡ fine) where
     limits : Limits (tables n cs rs fs is ms ss)
     limits = limits_kept (tables n cs rs fs is ms ss) (sym e ∙ f)
 

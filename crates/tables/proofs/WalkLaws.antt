@@ -1,6 +1,7 @@
 -- Laws of the walks that the checks at entry make: a test that chooses, and one turn of a walk.
 -- Assumes nothing.
-use Rattle.std.specs.Prelude.{Option, None, Some}
+use Rattle.rules.specs.Answers.{fine}
+use Rattle.std.specs.Prelude.{Option, None, Some, Ok, Err}
 use Prim.Native.Nat.{ℕ, suc, ◌+◌, ◌-◌, ◌≤◌, ◌<◌}
 use mathlib.Core.Path.{◌≡◌, sym, ◌∙◌}
 use mathlib.Core.Bool.{Bool, true, false, not}
@@ -8,8 +9,7 @@ use native.Mathlib.Omega.{arith}
 use native.Mathlib.Numerals.{add-one}
 use borrow.Author.Tests.{not-true, not-false}
 use Rattle.words.specs.Choose.{choose}
-use Rattle.rules.specs.declared.Answer.TheVariants.{OverLimit}
-use Rattle.rules.specs.declared.Check.TheVariants.{Fine, Refused}
+use Rattle.rules.specs.declared.Refusal.TheVariants.{OverLimit}
 use Rattle.rules.specs.Tables.{Tables}
 use Rattle.tables.specs.Entries.{Walked}
 use Rattle.rules.specs.Sound.{or_else, first, bad_unless, in_limits, check_limits}
@@ -22,13 +22,13 @@ pub not_chosen : {A : Type 0} (t b : Bool) (x y : A) → t ≡ b → t ≡ false
 not_chosen t b x y e f = simp (← e, f)
 
 -- check 3 by its test
-pub limits_fine : (T : Tables) (t : Bool) → t ≡ in_limits T → t ≡ true → Fine ≡ check_limits T
+pub limits_fine : (T : Tables) (t : Bool) → t ≡ in_limits T → t ≡ true → fine ≡ check_limits T
 unfolding check_limits
-limits_fine T t e f = chosen t (in_limits T) Fine (Refused OverLimit) e f
+limits_fine T t e f = chosen t (in_limits T) fine (Err OverLimit) e f
 
-pub limits_over : (T : Tables) (t : Bool) → t ≡ in_limits T → t ≡ false → Refused OverLimit ≡ check_limits T
+pub limits_over : (T : Tables) (t : Bool) → t ≡ in_limits T → t ≡ false → Err OverLimit ≡ check_limits T
 unfolding check_limits
-limits_over T t e f = not_chosen t (in_limits T) Fine (Refused OverLimit) e f
+limits_over T t e f = not_chosen t (in_limits T) fine (Err OverLimit) e f
 
 -- an entry by its test
 pub unless_good : (t : Bool) (k : ℕ) → t ≡ true → None ≡ bad_unless t k

@@ -4,7 +4,7 @@ ghost use Rattle.rules.specs.Sound.{check_tables};
 ghost use Rattle.tables.specs.Given.{tables};
 
 use crate::{classes, fixed, intervals, limits, mentions, safepoints};
-use rules::{Answer, Check};
+use rules::Refusal;
 
 // Whether the tables are sound, else the refusal and its place.
 pub fn check_tables(
@@ -15,10 +15,10 @@ pub fn check_tables(
     intervals: &[u32],
     mentions: &[u32],
     safepoints: &[u32],
-) -> Check
+) -> Result<(), Refusal>
     ensures { result ≡ check_tables (tables instructions classes.now registers.now fragments.now intervals.now mentions.now safepoints.now) }
 {
-    if let Check::Refused(a) = limits::check_limits(
+    limits::check_limits(
         instructions,
         classes,
         registers,
@@ -26,11 +26,9 @@ pub fn check_tables(
         intervals,
         mentions,
         safepoints,
-    ) {
-        return Check::Refused(a);
-    }
+    )?;
     if let Some(k) = classes::bad_class(classes, registers) {
-        return Check::Refused(Answer::BadClass(k));
+        return Err(Refusal::BadClass(k));
     }
     if let Some(k) = intervals::bad_interval(
         instructions,
@@ -39,16 +37,16 @@ pub fn check_tables(
         mentions,
         safepoints,
     ) {
-        return Check::Refused(Answer::BadInterval(k));
+        return Err(Refusal::BadInterval(k));
     }
     if let Some(k) = mentions::bad_mention(intervals, mentions) {
-        return Check::Refused(Answer::BadMention(k));
+        return Err(Refusal::BadMention(k));
     }
     if let Some(k) = safepoints::bad_safepoint(intervals, mentions, safepoints) {
-        return Check::Refused(Answer::BadSafepoint(k));
+        return Err(Refusal::BadSafepoint(k));
     }
     if let Some(k) = fixed::bad_fixed(instructions, registers, fragments) {
-        return Check::Refused(Answer::BadFixed(k));
+        return Err(Refusal::BadFixed(k));
     }
-    Check::Fine
+    Ok(())
 }

@@ -4,7 +4,7 @@ ghost use Rattle.rules.specs.Sound.{in_limits, check_limits};
 ghost use Rattle.tables.specs.Given.{tables};
 
 use crate::read;
-use rules::{Answer, Check};
+use rules::Refusal;
 
 const INSTRUCTIONS: u32 = 32768;
 
@@ -49,7 +49,7 @@ pub(crate) fn check_limits(
     intervals: &[u32],
     mentions: &[u32],
     safepoints: &[u32],
-) -> Check
+) -> Result<(), Refusal>
     ensures { result ≡ check_limits (tables instructions classes.now registers.now fragments.now intervals.now mentions.now safepoints.now) }
 {
     if in_limits(
@@ -61,8 +61,8 @@ pub(crate) fn check_limits(
         mentions,
         safepoints,
     ) {
-        Check::Fine
+        Ok(())
     } else {
-        Check::Refused(Answer::OverLimit)
+        Err(Refusal::OverLimit)
     }
 }

@@ -1,8 +1,7 @@
 -- Document 01, "Answers by number": the four words that a caller in C gets, by the definitions of `rules`.
+use Rattle.rules.specs.Answers.{Answer, number, place, count, total}
 use Rattle.std.specs.Prelude.{ℕ, ◌≡◌, List}
-use Rattle.rules.specs.declared.Answer.{Answer}
 use Rattle.rules.specs.declared.Options.{Options}
-use Rattle.rules.specs.Answers.{number, place, count, total}
 use Rattle.rules.specs.Tables.{Tables}
 use Rattle.rules.specs.Placement.{Claim}
 use Rattle.rules.specs.Call.{Assigned}

@@ -13,8 +13,8 @@ use lib.Dec.{eqb, ltb, leb}
 use lib.ListN.{length}
 use Rattle.words.specs.Choose.{choose}
 use Rattle.words.specs.Points.{use_point, instruction_of, is_use, previous, previous_of}
-use Rattle.rules.specs.declared.Choice.{Choice}
-use Rattle.rules.specs.declared.Choice.TheVariants.{AllBlocked, Take}
+use Rattle.rules.specs.Steps.{Choice}
+use Rattle.std.specs.Prelude.{None, Some}
 use Rattle.rules.specs.declared.Mode.{Mode}
 use Rattle.rules.specs.declared.Piece.{Piece}
 use Rattle.rules.specs.declared.Place.{Place}
@@ -25,7 +25,7 @@ use Rattle.rules.specs.Positions.{below, lower_of}
 use Rattle.rules.specs.Uses.{last_use}
 use Rattle.rules.specs.Split.{or_start, if_above, near_end, near_use, partial_place}
 use Rattle.rules.specs.State.{State, no_piece}
-use Rattle.rules.specs.Steps.{is_register, holder_in, pos_of, furthest}
+use Rattle.rules.specs.Steps.{offer, is_register, holder_in, pos_of, furthest}
 use Rattle.theorems.specs.Invariant.{at}
 
 pub and_true : (a b : Bool) → a && b ≡ true → (a ≡ true) × (b ≡ true)
@@ -48,8 +48,8 @@ module _ (pos : ℕ → Pos) (scratch lo hi : ℕ) where
     pub unblocked : p ≢ Blocked
 
   abbrev pub ChoiceIs : Choice → Type 0
-  ChoiceIs AllBlocked = Unit
-  ChoiceIs (Take r p) = Chosen r p
+  ChoiceIs None = Unit
+  ChoiceIs (Some e) = Chosen e.register e.pos
 
   not_blocked : (b p : Pos) → below b p ≡ true → p ≢ Blocked
   not_blocked Blocked p e d = let z : ◌≡◌ {A = Bool} false true = sym (ap (below Blocked) d) ∙ e in let o : ◌≡◌ {A = ℕ} 0 1 = cc in omega arith
@@ -61,9 +61,9 @@ module _ (pos : ℕ → Pos) (scratch lo hi : ℕ) where
   unfolding furthest
   furthest_is r zero best a b k = k
   furthest_is r (suc n) best a b k =
-      furthest_is (suc r) n (choose (not (eqb r scratch) && below (pos_of best) (pos r)) (Take r (pos r)) best) (omega arith) (omega arith) (go (eqb r scratch) (below (pos_of best) (pos r)) refl refl)
+      furthest_is (suc r) n (choose (not (eqb r scratch) && below (pos_of best) (pos r)) (offer r (pos r)) best) (omega arith) (omega arith) (go (eqb r scratch) (below (pos_of best) (pos r)) refl refl)
     where
-      go : (x y : Bool) → eqb r scratch ≡ x → below (pos_of best) (pos r) ≡ y → ChoiceIs (choose (not x && y) (Take r (pos r)) best)
+      go : (x y : Bool) → eqb r scratch ≡ x → below (pos_of best) (pos r) ≡ y → ChoiceIs (choose (not x && y) (offer r (pos r)) best)
       go true y d e = k
       go false true d e = record { from = a; below = omega arith; not_scratch = eqb-false r scratch d; is = refl; unblocked = not_blocked (pos_of best) (pos r) e }
       go false false d e = k

@@ -1,17 +1,15 @@
 -- What is proved of the definitions of `rules`, for every input, in the words of the demands. Each line cites its proof.
 -- Assumes nothing.
+use Rattle.rules.specs.Answers.{fine, Answer, done, number}
+use Rattle.std.specs.Prelude.{Ok}
 use Prim.Native.Nat.{ℕ, ◌*◌, ◌≤◌}
 use mathlib.Core.Path.{◌≡◌, sym}
 use mathlib.Core.List.{List, [], ◌∷◌}
 use native.Mathlib.Omega.{arith}
 use lib.ListN.{length, drop}
 use Rattle.words.specs.Packed.{record_words}
-use Rattle.rules.specs.declared.Answer.{Answer}
-use Rattle.rules.specs.declared.Answer.TheVariants.{Done}
-use Rattle.rules.specs.declared.Check.TheVariants.{Fine}
 use Rattle.rules.specs.declared.Mode.{Mode}
 use Rattle.rules.specs.declared.Options.{Options}
-use Rattle.rules.specs.Answers.{number}
 use Rattle.rules.specs.Tables.{Tables}
 use Rattle.rules.specs.Room.{capacity}
 use Rattle.rules.specs.State.{State, Outcome, goes, with_queue, record_of_key}
@@ -32,21 +30,21 @@ use Rattle.theorems.proofs.Pops.{done_popped}
 use Rattle.theorems.proofs.Done.{claim, check_tables_lem, done_rules, done_accepted}
 
 -- Demand 1. Any input gets an answer, and the run ends: where the checks pass, as many pops as the capacity empty the queue, or the run is refused as 10 to 13.
-pub ends : (m : Mode) (T : Tables) (cap work : ℕ) → check T cap work ≡ Fine → All (Finished (given m T cap)) (run_for m T cap)
+pub ends : (m : Mode) (T : Tables) (cap work : ℕ) → check T cap work ≡ fine → All (Finished (given m T cap)) (run_for m T cap)
 ends = call_ends
 
 -- and nothing on the way is ill-defined: at every turn of a run on accepted tables numbers are within bounds, and what is popped has no place yet
-pub defined : (m : Mode) (T : Tables) (cap work l : ℕ) (s : State) → cap ≤ 16384 → check T cap work ≡ Fine → Reached (given m T cap) l s → Defined (given m T cap) l s
+pub defined : (m : Mode) (T : Tables) (cap work l : ℕ) (s : State) → cap ≤ 16384 → check T cap work ≡ fine → Reached (given m T cap) l s → Defined (given m T cap) l s
 defined m T cap work l s small e = reached_defined (given m T cap) (accepted T (check_tables_lem T cap work e)) l s small (check_room_lem T cap work e)
 
 -- and each split and each spill that a step comes to is proper: a split falls inside its record, above its start; what is spilled was not spilled before
-pub proper : (m : Mode) (T : Tables) (cap work l : ℕ) (s : State) (x : ℕ) (xs : List ℕ) → cap ≤ 16384 → check T cap work ≡ Fine → Reached (given m T cap) l s → s.queue ≡ x ∷ xs → StepOk (given m T cap) (with_queue xs s) (record_of_key x)
+pub proper : (m : Mode) (T : Tables) (cap work l : ℕ) (s : State) (x : ℕ) (xs : List ℕ) → cap ≤ 16384 → check T cap work ≡ fine → Reached (given m T cap) l s → s.queue ≡ x ∷ xs → StepOk (given m T cap) (with_queue xs s) (record_of_key x)
 proper m T cap work l s x xs small e r =
     let ok = accepted T (check_tables_lem T cap work e) in
     turn_ok (given m T cap) ok small l s x xs (reached_inv (given m T cap) ok small (check_room_lem T cap work e) l s r)
 
 -- Done means that every queued record was popped, once.
-pub popped : (m : Mode) (T : Tables) (cap work : ℕ) (t : State) → cap ≤ 16384 → check T cap work ≡ Fine → run_for m T cap ≡ goes t → PoppedOnce (given m T cap) cap (begin T.intervals)
+pub popped : (m : Mode) (T : Tables) (cap work : ℕ) (t : State) → cap ≤ 16384 → check T cap work ≡ fine → run_for m T cap ≡ goes t → PoppedOnce (given m T cap) cap (begin T.intervals)
 unfolding run_for
 popped m T cap work t small e d =
     let ok = accepted T (check_tables_lem T cap work e) in
@@ -78,13 +76,13 @@ module _ (o : Options) (T : Tables) (out : List ℕ) (work : ℕ) where
   answer_alone other = answers_alone o T out other work
 
   -- Demand 3. Every result that is reported as done, with n records and slot total t, obeys the placement rules 1 to 7, so the checker's answer to it is done with this n and t.
-  pub obeys : (n t : ℕ) → (assign o T out work).answer ≡ Done n t → HoldBelow T (claim (assign o T out work) n t) 8
+  pub obeys : (n t : ℕ) → (assign o T out work).answer ≡ done n t → HoldBelow T (claim (assign o T out work) n t) 8
   obeys = done_rules o T out work
 
-  pub is_accepted : (n t : ℕ) → (assign o T out work).answer ≡ Done n t → Checks T (claim (assign o T out work) n t) (Done n t)
+  pub is_accepted : (n t : ℕ) → (assign o T out work).answer ≡ done n t → Checks T (claim (assign o T out work) n t) (done n t)
   is_accepted = done_accepted o T out work
 
 -- Demand 3, over the calls. The assigner's contract is `Assigned`, the checker's is `Checks`. Whenever the assigner answers done, whatever the checker answers to its tables, result words, count and total is done with the same count and total.
-pub together : (o : Options) (T : Tables) (out out' work work' : List ℕ) (n t : ℕ) (a : Answer) → Assigned o T out out' work work' (Done n t) → Checks T (record { words = out'; count = n; total = t }) a → a ≡ Done n t
+pub together : (o : Options) (T : Tables) (out out' work work' : List ℕ) (n t : ℕ) (a : Answer) → Assigned o T out out' work work' (done n t) → Checks T (record { words = out'; count = n; total = t }) a → a ≡ done n t
 together o T out out' work work' n t a h c =
-    one_answer T _ a (Done n t) c (rw h.leaves (is_accepted o T out (length work) n t (sym h.answers)))
+    one_answer T _ a (done n t) c (rw h.leaves (is_accepted o T out (length work) n t (sym h.answers)))

@@ -13,7 +13,7 @@ use lib.Dec.{ltb}
 use lib.ListN.{length, get_or}
 use Rattle.words.specs.Choose.{choose}
 use Rattle.words.specs.Points.{within}
-use Rattle.rules.specs.declared.Answer.TheVariants.{NoRecord}
+use Rattle.rules.specs.declared.Refusal.TheVariants.{NoRecord}
 use Rattle.rules.specs.declared.Piece.{Piece}
 use Rattle.rules.specs.declared.Place.TheVariants.{Nowhere, Slot}
 use Rattle.rules.specs.declared.Strategy.{Strategy}

@@ -12,9 +12,9 @@ use borrow.Author.Tests.{eqb-false, ltb-true, leb-true}
 use lib.Dec.{eqb, ltb, leb}
 use lib.ListN.{length}
 use Rattle.words.specs.Choose.{choose}
-use Rattle.rules.specs.declared.Answer.TheVariants.{NoRegister, OutOfRegisters, FixedClash}
-use Rattle.rules.specs.declared.Choice.{Choice}
-use Rattle.rules.specs.declared.Choice.TheVariants.{AllBlocked, Take}
+use Rattle.rules.specs.declared.Refusal.TheVariants.{NoRegister, OutOfRegisters, FixedClash}
+use Rattle.rules.specs.Steps.{Choice}
+use Rattle.std.specs.Prelude.{None, Some}
 use Rattle.rules.specs.declared.Piece.{Piece}
 use Rattle.rules.specs.declared.Place.{Place}
 use Rattle.rules.specs.declared.Place.TheVariants.{Nowhere, Register, Slot}
@@ -158,7 +158,7 @@ module _ (g : Given) (ok : Accepted g.tables) (small : g.capacity ≤ 16384) whe
   ClassChoice pos q c = ChoiceIs pos (class_of g q).scratch (class_of g q).first ((class_of g q).first + (class_of g q).count) c
 
   chosen : (pos : ℕ → Pos) (q : Piece) → ClassChoice pos q (furthest_of (class_of g q) pos)
-  chosen pos q = furthest_is pos (class_of g q).scratch (class_of g q).first ((class_of g q).first + (class_of g q).count) (class_of g q).first (class_of g q).count AllBlocked (omega arith) (omega arith) tt
+  chosen pos q = furthest_is pos (class_of g q).scratch (class_of g q).first ((class_of g q).first + (class_of g q).count) (class_of g q).first (class_of g q).count None (omega arith) (omega arith) tt
 
   usable : {pos : ℕ → Pos} (q : Piece) (r : ℕ) (p : Pos) → Chosen pos (class_of g q).scratch (class_of g q).first ((class_of g q).first + (class_of g q).count) r p → Usable T q.interval r
   usable {pos} q r p o = record { from = o.from; below = o.below; not_scratch = o.not_scratch }
@@ -475,15 +475,15 @@ module _ (g : Given) (ok : Accepted g.tables) (small : g.capacity ≤ 16384) whe
 
       weigh_keeps : (c : Choice) → ClassChoice (next_use_pos g s (at s.pieces k)) (at s.pieces k) c → Good (Placed S k) (weigh g s k f c)
       unfolding weigh
-      weigh_keeps AllBlocked o = own_keeps
-      weigh_keeps (Take r p) o =
-          good_if (Placed S k) (below (At f) p) (take_over g s k r) (spill_until g s k f)
-          (λ b. let y = reach r p o.is b in take_over_lem r (usable (at s.pieces k) r p o) y.0 f uses y.1 y.2)
+      weigh_keeps None o = own_keeps
+      weigh_keeps (Some e) o =
+          good_if (Placed S k) (below (At f) e.pos) (take_over g s k e.register) (spill_until g s k f)
+          (λ b. let y = reach e.register e.pos o.is b in take_over_lem e.register (usable (at s.pieces k) e.register e.pos o) y.0 f uses y.1 y.2)
           (λ b. own_keeps)
 
       weigh_ok : (c : Choice) → ClassChoice (next_use_pos g s (at s.pieces k)) (at s.pieces k) c → WeighOk g s k f c
-      weigh_ok AllBlocked o = until_ok
-      weigh_ok (Take r p) o = (λ b. let y = reach r p o.is b in take_over_ok r (usable (at s.pieces k) r p o) y.0 f uses y.1 y.2, λ b. until_ok)
+      weigh_ok None o = until_ok
+      weigh_ok (Some e) o = (λ b. let y = reach e.register e.pos o.is b in take_over_ok e.register (usable (at s.pieces k) e.register e.pos o) y.0 f uses y.1 y.2, λ b. until_ok)
 
     -- no next use: all mentions lie above S, since there is none
     no_use : next_use (at s.pieces k).start (points_of g (at s.pieces k)) ≡ None → Above g ok small (at s.pieces k) (at s.pieces k).start
@@ -554,15 +554,15 @@ module _ (g : Given) (ok : Accepted g.tables) (small : g.capacity ≤ 16384) whe
     allocate_keeps = by (furthest_of (class_of g (piece s k)) (free_until g s (piece s k))) (chosen (free_until g s (at s.pieces k)) (at s.pieces k))
       where
         by : (c : Choice) → ClassChoice (free_until g s (at s.pieces k)) (at s.pieces k) c → Good (Placed S k) (try_take g s k c)
-        by AllBlocked o = blocked_keeps
-        by (Take r p) o = let y = open_until r p (sym o.is) o.unblocked in take_keeps r (usable (at s.pieces k) r p o) y.0 y.1 p y.2 o.unblocked
+        by None o = blocked_keeps
+        by (Some e) o = let y = open_until e.register e.pos (sym o.is) o.unblocked in take_keeps e.register (usable (at s.pieces k) e.register e.pos o) y.0 y.1 e.pos y.2 o.unblocked
 
     pub allocate_ok : AllocateOk g s k
     allocate_ok = by (furthest_of (class_of g (piece s k)) (free_until g s (piece s k))) (chosen (free_until g s (at s.pieces k)) (at s.pieces k))
       where
         by : (c : Choice) → ClassChoice (free_until g s (at s.pieces k)) (at s.pieces k) c → TryTakeOk g s k c
-        by AllBlocked o = blocked_ok
-        by (Take r p) o = let y = open_until r p (sym o.is) o.unblocked in take_ok r (usable (at s.pieces k) r p o) y.0 y.1 p y.2
+        by None o = blocked_ok
+        by (Some e) o = let y = open_until e.register e.pos (sym o.is) o.unblocked in take_ok e.register (usable (at s.pieces k) e.register e.pos o) y.0 y.1 e.pos y.2
 
   -- step 1, on a record just popped
   pub popped : (S k : ℕ) (s : State) → Inv g S (But k) s → k < length s.pieces → (at s.pieces k).place ≡ Nowhere → (at s.pieces k).start ≡ S → Popped S k (drop_ended s S)

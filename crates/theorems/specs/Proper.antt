@@ -1,8 +1,8 @@
 -- That each split and each spill of a step is well-defined, wherever the step comes to one: a predicate beside each part of the steps, which reads as that part does. For the contracts of code.
 use Rattle.std.specs.Prelude.{ℕ, ◌+◌, ◌≤◌, ◌<◌, min, ◌≡◌, ◌≢◌, true, false, ◌&&◌, List, [], ◌∷◌, ltb, length, Option, None, Some}
 use Rattle.words.specs.Points.{use_point, def_point}
-use Rattle.rules.specs.declared.Choice.{Choice}
-use Rattle.rules.specs.declared.Choice.TheVariants.{AllBlocked, Take}
+use Rattle.rules.specs.Steps.{Choice}
+use Rattle.std.specs.Prelude.{None, Some}
 use Rattle.rules.specs.declared.Place.TheVariants.{Slot}
 use Rattle.rules.specs.declared.Pos.{Pos}
 use Rattle.rules.specs.declared.Pos.TheVariants.{Blocked, At, Never}
@@ -70,8 +70,8 @@ module _ (g : Given) where
 
   -- beside weigh, blocked_by and allocate_blocked
   abbrev pub WeighOk : State → ℕ → ℕ → Choice → Type 0
-  WeighOk s k f AllBlocked = UntilOk s k f
-  WeighOk s k f (Take r p) = (below (At f) p ≡ true → TakeOverOk s k r) × (below (At f) p ≡ false → UntilOk s k f)
+  WeighOk s k f None = UntilOk s k f
+  WeighOk s k f (Some e) = (below (At f) e.pos ≡ true → TakeOverOk s k e.register) × (below (At f) e.pos ≡ false → UntilOk s k f)
 
   abbrev pub BlockedByOk : State → ℕ → Option ℕ → Type 0
   BlockedByOk s k None = SpillOk s k
@@ -91,8 +91,8 @@ module _ (g : Given) where
   TryAtOk s k Never = Unit
 
   abbrev pub TryTakeOk : State → ℕ → Choice → Type 0
-  TryTakeOk s k AllBlocked = BlockedOk s k
-  TryTakeOk s k (Take r p) = TryAtOk s k p
+  TryTakeOk s k None = BlockedOk s k
+  TryTakeOk s k (Some e) = TryAtOk s k e.pos
 
   abbrev pub AllocateOk : State → ℕ → Type 0
   AllocateOk s k = TryTakeOk s k (furthest_of (class_of g (piece s k)) (free_until g s (piece s k)))

@@ -13,11 +13,11 @@ returns-then-count-gt-MOST_RECORDS c = over_count _ _ c.if-count-gt-MOST_RECORDS
 pub returns-then-words-records : goal.returns-then-words-records
 returns-then-words-records c = search over_words
 
-pub returns-in-Refused : goal.returns-in-Refused
-returns-in-Refused c = search tables_refused
+pub returns-in-Err : goal.returns-in-Err
+returns-in-Err c = search tables_refused
 
 pub judge-verdict-requires : goal.judge-verdict-requires
 judge-verdict-requires c = ready _ (accepted _ (sym c.check_tables-checked.ensures ∙ c.in-Fine.is)) _ c.if-count-gt-MOST_RECORDS.false c.if-words-records.false (λ i. omega (arith, c.shared_slice_known-5-1.given i)) (λ i. omega (arith, c.shared_slice_known-3-1.given i))
 
-pub returns-in-Fine : goal.returns-in-Fine
-returns-in-Fine c = search answered
+pub returns-in-Ok : goal.returns-in-Ok
+returns-in-Ok c = search answered

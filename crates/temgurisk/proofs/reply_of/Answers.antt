@@ -1,7 +1,7 @@
 -- `temgurisk::reply_of` meets its contract: each answer has the four words of its row.
 -- Assumes nothing.
 use mathlib.Core.Path.{◌≡◌, ◌∙◌, ap, sym}
-use Rattle.rules.specs.declared.Answer.{Answer}
+use Rattle.rules.specs.Answers.{Answer}
 use Rattle.temgurisk.specs.Replies.{reply_of}
 use Rattle.temgurisk.specs.declared.Reply.{Reply}
 use Rattle.temgurisk.proofs.reply_of.Goals as goal

@@ -6,8 +6,8 @@ use Rattle.assign.proofs.call.assign.Goals as goal
 pub returns-in_default : goal.returns-in_default
 returns-in_default c = search unknown
 
-pub returns-in-Refused : goal.returns-in-Refused
-returns-in-Refused c = search turned_away
+pub returns-in-Err : goal.returns-in-Err
+returns-in-Err c = search turned_away
 
 pub assign_checked-requires : goal.assign_checked-requires
 assign_checked-requires c = lets_in _ _ _ _ _ c.capacity_of-cap.ensures c.check.ensures c.in_default-check.is

@@ -9,8 +9,8 @@ emit-requires c = record { ready = search done_ready; record_words_in_bounds = s
 pub overflow_cast-count : goal.overflow_cast-count
 overflow_cast-count c = search done_count
 
-pub returns-in-On : goal.returns-in-On
-returns-in-On c = search concludes_done
+pub returns-in-Ok : goal.returns-in-Ok
+returns-in-Ok c = search concludes_done
 
-pub returns-in-Off : goal.returns-in-Off
-returns-in-Off c = search concludes_refused
+pub returns-in-Err : goal.returns-in-Err
+returns-in-Err c = search concludes_refused

@@ -3,8 +3,8 @@
 use Rattle.assign.proofs.CallLaws.{check_refused, check_passed}
 use Rattle.assign.proofs.entry.check.Goals as goal
 
-pub returns-in-Refused : goal.returns-in-Refused
-returns-in-Refused c = search check_refused
+pub returns-in-Err : goal.returns-in-Err
+returns-in-Err c = search check_refused
 
 pub returns : goal.returns
 returns c = search check_passed

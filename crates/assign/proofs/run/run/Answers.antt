@@ -25,21 +25,21 @@ free_row-requires c = search going_faces
 pub settle-tried-requires : goal.settle-tried-requires
 settle-tried-requires c = going_takes _ _ _ _ _ _ _ _ _ _ _ _ _ _ _ c.loop-turn.invariant _ _ c.front-f.ensures
 
-pub shape_of-work-in-Off : goal.shape_of-work-in-Off
-shape_of-work-in-Off c =
+pub shape_of-work-in-Err : goal.shape_of-work-in-Err
+shape_of-work-in-Err c =
     let d = did_settle _ _ _ _ _ _ _ _ _ _ _ _ _ _ _ c.loop-turn.invariant _ _ c.front-f.ensures _ c.free_row.ensures _ _ c.settle-tried.ensures _ c.in-Taken.is in
     search rules
 
-pub returns-in-Off : goal.returns-in-Off
-returns-in-Off c =
+pub returns-in-Err : goal.returns-in-Err
+returns-in-Err c =
     let d = did_settle _ _ _ _ _ _ _ _ _ _ _ _ _ _ _ c.loop-turn.invariant _ _ c.front-f.ensures _ c.free_row.ensures _ _ c.settle-tried.ensures _ c.in-Taken.is in
     search going_off
 
-pub loop-turn-smaller-in-Taken : goal.loop-turn-smaller-in-Taken
-loop-turn-smaller-in-Taken c = search rules
+pub loop-turn-smaller-in-Some : goal.loop-turn-smaller-in-Some
+loop-turn-smaller-in-Some c = search rules
 
-pub loop-turn-preserved-in-Taken : goal.loop-turn-preserved-in-Taken
-loop-turn-preserved-in-Taken c =
+pub loop-turn-preserved-in-Some : goal.loop-turn-preserved-in-Some
+loop-turn-preserved-in-Some c =
     let d = did_settle _ _ _ _ _ _ _ _ _ _ _ _ _ _ _ c.loop-turn.invariant _ _ c.front-f.ensures _ c.free_row.ensures _ _ c.settle-tried.ensures _ c.in-Taken.is in
     search going_on
 
@@ -54,13 +54,13 @@ loop-turn-preserved c =
     let d = did_contend _ _ _ _ _ _ _ _ _ _ _ _ _ _ _ c.loop-turn.invariant _ _ c.front-f.ensures _ c.free_row.ensures _ _ c.settle-tried.ensures _ _ c.in_default.is c.contend.ensures in
     search going_on
 
-pub shape_of-work-in-Off-contend : goal.shape_of-work-in-Off-contend
-shape_of-work-in-Off-contend c =
+pub shape_of-work-in-Err-contend : goal.shape_of-work-in-Err-contend
+shape_of-work-in-Err-contend c =
     let d = did_contend _ _ _ _ _ _ _ _ _ _ _ _ _ _ _ c.loop-turn.invariant _ _ c.front-f.ensures _ c.free_row.ensures _ _ c.settle-tried.ensures _ _ c.in_default.is c.contend.ensures in
     search rules
 
-pub returns-in-Off-contend : goal.returns-in-Off-contend
-returns-in-Off-contend c =
+pub returns-in-Err-contend : goal.returns-in-Err-contend
+returns-in-Err-contend c =
     let d = did_contend _ _ _ _ _ _ _ _ _ _ _ _ _ _ _ c.loop-turn.invariant _ _ c.front-f.ensures _ c.free_row.ensures _ _ c.settle-tried.ensures _ _ c.in_default.is c.contend.ensures in
     search going_off
 

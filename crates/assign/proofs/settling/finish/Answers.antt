@@ -6,8 +6,8 @@ use Rattle.assign.proofs.settling.finish.Goals as goal
 pub maybe_handle_safepoints-requires : goal.maybe_handle_safepoints-requires
 maybe_handle_safepoints-requires c = search finish_held
 
-pub returns-in-On : goal.returns-in-On
-returns-in-On c = search finish_on
+pub returns-in-Ok : goal.returns-in-Ok
+returns-in-Ok c = search finish_on
 
-pub returns-in-Off : goal.returns-in-Off
-returns-in-Off c = search finish_off
+pub returns-in-Err : goal.returns-in-Err
+returns-in-Err c = search finish_off

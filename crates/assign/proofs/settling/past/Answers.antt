@@ -6,8 +6,8 @@ use Rattle.assign.proofs.settling.past.Goals as goal
 pub looks_at-requires : goal.looks_at-requires
 looks_at-requires c = record { ready = search look_ready; k_lt_records = search look_inside; intervals_value = search look_rows }
 
-pub returns-in-On : goal.returns-in-On
-returns-in-On c = search past_on
+pub returns-in-Ok : goal.returns-in-Ok
+returns-in-Ok c = search past_on
 
-pub returns-in-Off : goal.returns-in-Off
-returns-in-Off c = search past_off
+pub returns-in-Err : goal.returns-in-Err
+returns-in-Err c = search past_off

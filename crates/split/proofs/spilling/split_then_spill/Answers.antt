@@ -7,8 +7,8 @@ use Rattle.split.proofs.spilling.split_then_spill.Goals as goal
 pub spill-requires : goal.spill-requires
 spill-requires c = search on_spilling
 
-pub returns-in-On : goal.returns-in-On
-returns-in-On c = search then_spilt
+pub returns-in-Ok : goal.returns-in-Ok
+returns-in-Ok c = search then_spilt
 
-pub returns-in-Off : goal.returns-in-Off
-returns-in-Off c = search then_off
+pub returns-in-Err : goal.returns-in-Err
+returns-in-Err c = search then_off

@@ -6,8 +6,8 @@ use Rattle.steps.proofs.allocate.granted.Goals as goal
 pub returns-in_default : goal.returns-in_default
 returns-in_default c = search grant_none
 
-pub returns-in-Blocked : goal.returns-in-Blocked
-returns-in-Blocked c = search grant_blocked
+pub returns-in-None : goal.returns-in-None
+returns-in-None c = search grant_blocked
 
 pub returns-in-At : goal.returns-in-At
 returns-in-At c = search grant_at

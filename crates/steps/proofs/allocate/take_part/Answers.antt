@@ -6,8 +6,8 @@ use Rattle.steps.proofs.allocate.take_part.Goals as goal
 pub take_register-requires : goal.take_register-requires
 take_register-requires c = search parted_taking
 
-pub returns-in-On : goal.returns-in-On
-returns-in-On c = search part_taken
+pub returns-in-Ok : goal.returns-in-Ok
+returns-in-Ok c = search part_taken
 
-pub returns-in-Off : goal.returns-in-Off
-returns-in-Off c = search part_off
+pub returns-in-Err : goal.returns-in-Err
+returns-in-Err c = search part_off

@@ -9,5 +9,5 @@ returns-in-Whole c = search tries_whole
 pub returns-in-Part : goal.returns-in-Part
 returns-in-Part c = search tries_part
 
-pub returns-in-Refused : goal.returns-in-Refused
-returns-in-Refused c = search tries_none
+pub returns-in-Err : goal.returns-in-Err
+returns-in-Err c = search tries_none

@@ -6,8 +6,8 @@ use Rattle.steps.proofs.taking.take_over.Goals as goal
 pub spill_holder-requires : goal.spill_holder-requires
 spill_holder-requires c = search over_holding
 
-pub returns-in-On : goal.returns-in-On
-returns-in-On c = search taken_over
+pub returns-in-Ok : goal.returns-in-Ok
+returns-in-Ok c = search taken_over
 
-pub returns-in-Off : goal.returns-in-Off
-returns-in-Off c = search over_off
+pub returns-in-Err : goal.returns-in-Err
+returns-in-Err c = search over_off

@@ -3,8 +3,8 @@
 use Rattle.tables.proofs.OrderLaws.{in_order, few_instructions, few_classes, few_registers, few_intervals, few_mentions, few_safepoints, ranged, placed}
 use Rattle.tables.proofs.check.check_tables.Goals as goal
 
-pub returns-in-Refused : goal.returns-in-Refused
-returns-in-Refused c = search in_order depth 8
+pub returns-in-Err : goal.returns-in-Err
+returns-in-Err c = search in_order depth 8
 
 pub bad_class-requires : goal.bad_class-requires
 bad_class-requires c = search few_classes

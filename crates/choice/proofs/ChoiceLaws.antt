@@ -32,6 +32,11 @@ pub record Takes (pos : ℕ → Pos) (scratch r n x : ℕ) (p : Pos) : Type 0 wh
 takes_more : {pos : ℕ → Pos} {scratch r n x : ℕ} {p : Pos} → Takes pos scratch (suc r) n x p → Takes pos scratch r (suc n) x p
 takes_more t = record { low = omega (arith, t.low); high = omega (arith, t.high); other = t.other; is = t.is }
 
+-- the register of a choice, if any
+abbrev register_of : Choice → ℕ
+register_of None = 0
+register_of (Some e) = e.register
+
 -- a register that the scan gives was there from the start, or was taken on the way
 scan_takes : (pos : ℕ → Pos) (scratch n r : ℕ) (best : Choice) (x : ℕ) (p : Pos) → furthest pos scratch r n best ≡ offer x p
     → (best ≡ offer x p) ⊎ Takes pos scratch r n x p
@@ -49,8 +54,8 @@ scan_takes pos scratch (suc n) r best x p e = go (ℕ_discrete r scratch) (λ b.
     takes ih d f =
         ⊎_elim
         (λ a.
-        let k : r ≡ x = cc in
-        let l : pos r ≡ p = cc in
+        let k : r ≡ x = ap register_of a in
+        let l : pos r ≡ p = ap pos_of a in
         inr record { low = omega arith; high = omega arith; other = λ q. d (k ∙ q); is = sym l ∙ ap pos k })
         (λ t. inr (takes_more t))
         (ih (offer r (pos r)) f)

@@ -1,19 +1,13 @@
--- `choice::positions::better_of` meets its contract: only a register that is not scratch and lies strictly above the best takes its place.
+-- `choice::positions::better_of` meets its contract: a register above the best takes its place, and scratch never does.
 -- Assumes nothing.
-use Rattle.choice.proofs.PositionLaws.{never_scratch, first_choice, no_choice, better_choice, same_choice}
+use Rattle.choice.proofs.PositionLaws.{never_scratch, better_choice, same_choice}
 use Rattle.choice.proofs.positions.better_of.Goals as goal
 
-pub returns-then-r-scratch : goal.returns-then-r-scratch
-returns-then-r-scratch c = search never_scratch
+pub returns-then-e-scratch : goal.returns-then-e-scratch
+returns-then-e-scratch c = search never_scratch
 
 pub returns-then-below_of : goal.returns-then-below_of
-returns-then-below_of c = search first_choice
+returns-then-below_of c = search better_choice
 
 pub returns-else-below_of : goal.returns-else-below_of
-returns-else-below_of c = search no_choice
-
-pub returns-then-below_of-2 : goal.returns-then-below_of-2
-returns-then-below_of-2 c = search better_choice
-
-pub returns-else-below_of-2 : goal.returns-else-below_of-2
-returns-else-below_of-2 c = search same_choice
+returns-else-below_of c = search same_choice

@@ -1,5 +1,6 @@
 -- Steps 2 and 3 in the work area are those of the rules.
 -- Assumes nothing.
+use Rattle.rules.specs.declared.RegPos.{RegPos}
 use Rattle.std.specs.Prelude.{Option, None, Some, Ok, Err}
 use Prim.Native.Nat.{ℕ, ◌<◌}
 use mathlib.Core.Path.{◌≡◌, refl, sym, ap, ◌∙◌}
@@ -32,7 +33,7 @@ use Rattle.split.proofs.NarrowLaws.{queue_any}
 use Rattle.split.proofs.TurnLaws.{on_goes, on_went, off_stops}
 use Rattle.steps.specs.Stepping.{stepping, Parting, Taking, Took, Tries, grant_part, grant_until, grant_at, grant_of, partial_at, take_part, ended, refused, Did}
 use Rattle.steps.specs.declared.Grant.{Grant}
-use Rattle.steps.specs.declared.Grant.TheVariants.{Whole, Part, Refused}
+use Rattle.steps.specs.declared.Grant.TheVariants.{Whole, Part}
 use Rattle.steps.proofs.TakingLaws.{fit_take}
 
 -- the end of the piece that was read
@@ -170,7 +171,7 @@ module _ (cap : ℕ) (m : Mode) (ms ss ws : List ℕ) (c : Counts) (k : ℕ) (x 
       record {
         taken = λ n cs rs fs is z i.
             let v = took_whole cap ms ss ws ws' c d k r h.fit (rw (records_are cap ws c h.ready) h.inside) u in
-            rw (← taken_only i, done n cs rs fs is (Whole r) f) v;
+            rw (← taken_only i, done n cs rs fs is (Some (Whole r)) f) v;
         blocked = λ n cs rs fs is i. absurd (let q : ◌≡◌ {A = ℕ} 0 1 = cc in omega arith);
         kept = λ i. absurd (let q : ◌≡◌ {A = ℕ} 0 1 = cc in omega arith);
       }

@@ -155,7 +155,7 @@ module _ (cap n : ℕ) (m : Mode) (cs rs fs is ms ss ws : List ℕ) (c : Counts)
     -- the furthest of a class is one of 64
     pub chosen : (row : List Pos) (o : Choice) → Weighing cap is ms ss ws c k i x → o ≡ furthest (pos_in row) x.scratch x.first x.count None → Chosen o
     chosen row o h e =
-        record { below = λ r p d. let y = furthest_takes (pos_in row) x.scratch x.first x.count r p (sym e ∙ d) in omega (arith, y.high, h.registers) }
+        record { below = λ r d. let y = furthest_takes (pos_in row) x.scratch x.first x.count r.register r.pos (sym e ∙ d) in omega (arith, y.high, h.registers) }
 
     pub uses_weighed : (ws' : List ℕ) (f S : ℕ) (block next : List Pos) (o : Choice) (z : Turn)
         → HolderRow (next_pos ms (state_of cap ws c) S block) (state_of cap ws c) x.first x.count next

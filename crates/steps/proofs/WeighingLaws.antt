@@ -1,5 +1,6 @@
 -- What is weighed in the work area is what the rules weigh.
 -- Assumes nothing.
+use Rattle.rules.specs.declared.RegPos.{RegPos}
 use Rattle.std.specs.Prelude.{Option, None, Some, Err}
 use Prim.Native.Nat.{ℕ, ◌+◌, ◌≤◌, ◌<◌}
 use mathlib.Core.Path.{◌≡◌, refl, sym, ap, ◌∙◌}

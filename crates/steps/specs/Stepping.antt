@@ -1,4 +1,5 @@
 -- Facts for contracts: what a step is given, and what the code leans on at the popped record.
+use Rattle.rules.specs.declared.RegPos.{RegPos}
 use Rattle.std.specs.Prelude.{ℕ, ◌+◌, ◌≤◌, ◌<◌, ◌≡◌, List, [], ltb, length, Option, None, Some, Ok, Err}
 use Rattle.words.specs.Choose.{choose}
 use Rattle.words.specs.declared.Class.{Class}
@@ -22,7 +23,7 @@ use Rattle.activity.specs.declared.Tracker.{Tracker}
 use Rattle.activity.specs.Fixed.{Fixed}
 use Rattle.activity.specs.Cursors.{Facing}
 use Rattle.steps.specs.declared.Grant.{Grant}
-use Rattle.steps.specs.declared.Grant.TheVariants.{Whole, Part, Refused}
+use Rattle.steps.specs.declared.Grant.TheVariants.{Whole, Part}
 use Rattle.steps.specs.declared.blocked.Kind.{Kind}
 use Rattle.split.specs.Turns.{Turn}
 use Rattle.choice.specs.Row.{pos_in}
@@ -207,6 +208,10 @@ grant_at m ms q r Never = Some (Whole r)
 unfoldable pub grant_of : Mode → List ℕ → Piece → Choice → Option Grant
 grant_of m ms q None = None
 grant_of m ms q (Some e) = grant_at m ms q e.register e.pos
+
+-- a register was taken, whole or for a part; or step 4 is due
+abbrev pub Tried : Type 0
+Tried = Option Turn
 
 -- the chosen register was tried for record k: taken as the rules say, whatever the other tables are, or step 4 is due
 pub record Tries (cap : ℕ) (m : Mode) (ms ss ws ws' : List ℕ) (c : Counts) (k : ℕ) (x : Choice) (t : Tried) : Type 0 where

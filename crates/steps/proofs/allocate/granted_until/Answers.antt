@@ -6,8 +6,8 @@ use Rattle.steps.proofs.allocate.granted_until.Goals as goal
 pub returns-then-ends_before : goal.returns-then-ends_before
 returns-then-ends_before c = search until_after
 
-pub returns-in_default : goal.returns-in_default
-returns-in_default c = search until_none
+pub returns-in_err-at : goal.returns-in_err-at
+returns-in_err-at c = rw c.from_residual.ensures (search (until_none, c.in_err-at.was))
 
 pub returns : goal.returns
-returns c = search until_part
+returns c = search (until_part, c.in_ok-at.was)

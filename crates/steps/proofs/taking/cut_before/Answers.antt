@@ -3,8 +3,8 @@
 use Rattle.steps.proofs.TakingLaws.{uncut_blocked, uncut_never, cut_there}
 use Rattle.steps.proofs.taking.cut_before.Goals as goal
 
-pub returns-in-None : goal.returns-in-None
-returns-in-None c = search (uncut_blocked, uncut_never, cut_there)
+pub returns-in-Blocked : goal.returns-in-Blocked
+returns-in-Blocked c = search (uncut_blocked, uncut_never, cut_there)
 
 pub returns-in-Never : goal.returns-in-Never
 returns-in-Never c = search (uncut_blocked, uncut_never, cut_there)

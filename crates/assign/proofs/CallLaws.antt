@@ -1,6 +1,7 @@
 -- The call: the strategy by its number, the room, the checks by their cases, and the end of a run written out.
 -- Assumes nothing.
-use Rattle.rules.specs.Answers.{fine, Answer, done, Check, number}
+use Rattle.rules.specs.Answers.{fine, Answer, Check, number}
+use Rattle.rules.specs.Answers as answers
 use Rattle.std.specs.Prelude.{Option, None, Some, Ok, Err}
 use Prim.Native.Nat.{ℕ, ◌+◌, ◌*◌, ◌≤◌, ◌<◌}
 use mathlib.Core.Path.{◌≡◌, refl, sym, ap, ◌∙◌}
@@ -83,7 +84,7 @@ module _ (cap : ℕ) (ws out out' : List ℕ) (r : Turn) (n : Closing cap ws out
   pub done_count : (c : Counts) → r ≡ Ok c → Fits w32 c.records
   done_count c e = let h = done_ready c e in omega (arith, h.records, h.most)
 
-  pub concludes_done : (c : Counts) → r ≡ Ok c → out' ≡ write_records (state_of cap ws c).pieces out → Concluded (outcome_of cap ws r) out out' (done c.records c.total)
+  pub concludes_done : (c : Counts) → r ≡ Ok c → out' ≡ write_records (state_of cap ws c).pieces out → Concluded (outcome_of cap ws r) out out' (answers.done c.records c.total)
   unfolding outcome_of finish state_of
   concludes_done c e o = let l = records_are cap ws c (done_ready c e) in record { answers = simp (e, l); leaves = simp e o }
 
@@ -121,7 +122,7 @@ not_entry m T cap work out a e f l h = go (run_for m T cap) (call_ends m T cap w
   where
     go : (x : Outcome) → All (Finished (given m T cap)) x → a ≡ (finish x out).answer → ⊥
     go x (on s k) g = let z : number a ≡ 1 = ap number g in omega arith
-    go x (off b d) g = let z : number a ≡ number b = ap number g in omega (arith, d.least)
+    go x (off b d) g = let z : number a ≡ number (Err b) = ap number g in omega (arith, d.least)
 
 -- both of 8 and 9 passed
 room_passed : (n cap work : ℕ) → check_room n cap work ≡ fine → (n ≤ cap) × (8 * cap + 256 ≤ work)
@@ -142,10 +143,10 @@ lets_in T out ws cap k c d g =
 
 module _ (n : ℕ) (p e : Bool) (T : Tables) (out ws : List ℕ) (q : Option Strategy) (s : q ≡ strategy_of n) where
   -- 2
-  pub unknown : q ≡ None → Assigned (options n p e) T out out ws ws BadStrategy
+  pub unknown : q ≡ None → Assigned (options n p e) T out out ws ws (Err BadStrategy)
   unfolding assign assign_by
   unknown f =
-      let b : assign (options n p e) T out (length ws) ≡ record { answer = BadStrategy; leaves = out } = ap (assign_by (options n p e) T out (length ws)) (sym s ∙ f) in
+      let b : assign (options n p e) T out (length ws) ≡ record { answer = Err BadStrategy; leaves = out } = ap (assign_by (options n p e) T out (length ws)) (sym s ∙ f) in
       record { answers = sym (ap (λ (x : Effect). x.answer) b); leaves = sym (ap (λ (x : Effect). x.leaves) b); keeps = λ l h. refl }
 
   module _ (y : Strategy) (f : q ≡ Some y) (cap : ℕ) (c : cap ≡ capacity out) (k : Check) (d : k ≡ check T cap (length ws)) where
@@ -162,7 +163,7 @@ module _ (n : ℕ) (p e : Bool) (T : Tables) (out ws : List ℕ) (q : Option Str
     -- 3 to 9
     pub turned_away : (a : Refusal) → k ≡ Err a → Assigned (options n p e) T out out ws ws (Err a)
     turned_away a g =
-        let b : assign (options n p e) T out (length ws) ≡ record { answer = a; leaves = out } = known ∙ ap (λ (x : Check). unless_refused x out ends) g in
+        let b : assign (options n p e) T out (length ws) ≡ record { answer = Err a; leaves = out } = known ∙ ap (λ (x : Check). unless_refused x out ends) g in
         record { answers = sym (ap (λ (x : Effect). x.answer) b); leaves = sym (ap (λ (x : Effect). x.leaves) b); keeps = λ l h. refl }
 
     -- 1, and 10 to 13

@@ -1,6 +1,6 @@
 -- The main loop: what is left to run is what there was to run. The state at its head is one that the rules reach, so nothing queued starts before the last start, and the cursors may only rise.
 -- Assumes nothing.
-use Rattle.std.specs.Prelude.{Ok, Err, Some}
+use Rattle.std.specs.Prelude.{Ok, Err, Some, None}
 use Prim.Native.Nat.{ℕ, zero, suc, ◌+◌, ◌-◌, ◌/◌, ◌≤◌, ◌<◌}
 use mathlib.Core.Path.{◌≡◌, refl, sym, ap, ◌∙◌}
 use mathlib.Core.List.{List, [], ◌∷◌, Memᴰ}

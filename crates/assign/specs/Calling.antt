@@ -1,4 +1,5 @@
 -- Facts for contracts: what the checks at entry give the run, how a run ends, and what the call makes of its end.
+use Rattle.rules.specs.Answers.{Answer}
 use Rattle.std.specs.Prelude.{ℕ, ◌+◌, ◌*◌, ◌≤◌, ◌≡◌, Bool, List, length, Ok, Err}
 use Rattle.words.specs.Packed.{interval_count}
 use Rattle.rules.specs.declared.Refusal.{Refusal}

@@ -5,11 +5,11 @@ ghost use Rattle.tables.specs.Given.{tables};
 ghost use Rattle.assign.specs.Calling.{options, Allowed, Closing, Concluded};
 
 use crate::{entry, run};
-use rules::{Answer, Done, Mode, Refusal};
+use rules::{Done, Mode, Refusal};
 use store::{Counts, area};
 
 // The records of a run that is done; zeros for one that was refused.
-fn conclude(work: &[u32], res: &mut [u32], turn: Result<Counts, Refusal>, cap: usize) -> Answer
+fn conclude(work: &[u32], res: &mut [u32], turn: Result<Counts, Refusal>, cap: usize) -> Result<Done, Refusal>
     requires { Closing cap work.now res.old turn }
     ensures { Concluded (outcome_of cap work.now turn) res.old res.new result }
 {
@@ -41,7 +41,7 @@ fn assign_checked(
     res: &mut [u32],
     work: &mut [u32],
     cap: usize,
-) -> Answer
+) -> Result<Done, Refusal>
     requires { Allowed (tables instructions classes.now registers.now fragments.now intervals.now mentions.now safepoints.now) cap work.old res.old }
     ensures { Concluded (run_for mode (tables instructions classes.now registers.now fragments.now intervals.now mentions.now safepoints.now) cap) res.old res.new result }
 {
@@ -76,7 +76,7 @@ pub fn assign(
     safepoints: &[u32],
     res: &mut [u32],
     work: &mut [u32],
-) -> Answer
+) -> Result<Done, Refusal>
     ensures { Assigned (options strategy partial_split partial_split_near_end) (tables instructions classes.now registers.now fragments.now intervals.now mentions.now safepoints.now) res.old res.new work.old work.new result }
 {
     let Some(known) = entry::strategy_of(strategy) else {

@@ -26,9 +26,7 @@ pub(crate) fn run(
     let mut c = begun;
     let mut t = activity::fresh(registers);
     let mut free = rows::never_rows();
-    let mut turn = 0;
-    while turn < cap {
-        turn += 1;
+    for turn in 0..cap {
         if c.queued == 0 {
             return Ok(c);
         }

@@ -1,16 +1,17 @@
 -- `assign::call::assign` meets its contract: the strategy, the checks, then the run; what it answers after the checks is none of 2 to 9.
 -- Assumes nothing.
+use Rattle.words.proofs.Residual.{passed}
 use Rattle.assign.proofs.CallLaws.{unknown, turned_away, lets_in, let_in}
 use Rattle.assign.proofs.call.assign.Goals as goal
 
 pub returns-in_default : goal.returns-in_default
 returns-in_default c = search unknown
 
-pub returns-in-Err : goal.returns-in-Err
-returns-in-Err c = search turned_away
+pub returns-in_err-check : goal.returns-in_err-check
+returns-in_err-check c = rw (passed _ _ c.from_residual.ensures.1) (search (turned_away, c.in_err-check.was))
 
 pub assign_checked-requires : goal.assign_checked-requires
-assign_checked-requires c = lets_in _ _ _ _ _ c.capacity_of-cap.ensures c.check.ensures c.in_default-check.is
+assign_checked-requires c = lets_in _ _ _ _ _ c.capacity_of-cap.ensures c.check.ensures c.in_ok-check.was
 
 pub returns : goal.returns
-returns c = search let_in
+returns c = search (let_in, c.in_ok-check.was)

@@ -6,8 +6,8 @@ use Rattle.assign.proofs.call.conclude.Goals as goal
 pub emit-requires : goal.emit-requires
 emit-requires c = record { ready = search done_ready; record_words_in_bounds = search done_out }
 
-pub overflow_cast-count : goal.overflow_cast-count
-overflow_cast-count c = search done_count
+pub overflow_cast-result : goal.overflow_cast-result
+overflow_cast-result c = search done_count
 
 pub returns-in-Ok : goal.returns-in-Ok
 returns-in-Ok c = search concludes_done

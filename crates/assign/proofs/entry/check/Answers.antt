@@ -1,10 +1,11 @@
 -- `assign::entry::check` meets its contract: the tables first, then the room.
 -- Assumes nothing.
+use Rattle.words.proofs.Residual.{passed_on}
 use Rattle.assign.proofs.CallLaws.{check_refused, check_passed}
 use Rattle.assign.proofs.entry.check.Goals as goal
 
-pub returns-in-Err : goal.returns-in-Err
-returns-in-Err c = search check_refused
+pub returns-in_err-check_tables : goal.returns-in_err-check_tables
+returns-in_err-check_tables c = passed_on _ _ _ c.from_residual.ensures.1 (search (check_refused, c.in_err-check_tables.was))
 
 pub returns : goal.returns
-returns c = search check_passed
+returns c = search (check_passed, c.in_ok-check_tables.was)

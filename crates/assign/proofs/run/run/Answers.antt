@@ -1,6 +1,7 @@
 -- `assign::run::run` meets its contract: each turn is one pop of the rules' run, and what is left to run is what there was to run.
 -- Assumes nothing.
 use Rattle.assign.proofs.RunLaws.{going_few, going_starts, going_turns, going_empty, going_out, going_tracks, going_faces, going_takes, did_settle, still_steps, did_contend, going_on, going_off}
+use Rattle.words.proofs.Residual.{passed}
 use borrow.Author.Rules.{rules}
 use Rattle.assign.proofs.run.run.Goals as goal
 
@@ -25,44 +26,28 @@ free_row-requires c = search going_faces
 pub settle-tried-requires : goal.settle-tried-requires
 settle-tried-requires c = going_takes _ _ _ _ _ _ _ _ _ _ _ _ _ _ _ c.loop-turn.invariant _ _ c.front-f.ensures
 
-pub shape_of-work-in-Err : goal.shape_of-work-in-Err
-shape_of-work-in-Err c =
-    let d = did_settle _ _ _ _ _ _ _ _ _ _ _ _ _ _ _ c.loop-turn.invariant _ _ c.front-f.ensures _ c.free_row.ensures _ _ c.settle-tried.ensures _ c.in-Taken.is in
-    search rules
-
-pub returns-in-Err : goal.returns-in-Err
-returns-in-Err c =
-    let d = did_settle _ _ _ _ _ _ _ _ _ _ _ _ _ _ _ c.loop-turn.invariant _ _ c.front-f.ensures _ c.free_row.ensures _ _ c.settle-tried.ensures _ c.in-Taken.is in
-    search going_off
-
-pub loop-turn-smaller-in-Some : goal.loop-turn-smaller-in-Some
-loop-turn-smaller-in-Some c = search rules
+pub returns-in_err-c : goal.returns-in_err-c
+returns-in_err-c c =
+    let d = did_settle _ _ _ _ _ _ _ _ _ _ _ _ _ _ _ c.loop-turn.invariant _ _ c.front-f.ensures _ c.free_row.ensures _ _ c.settle-tried.ensures _ c.in-Some.is in
+    rw (passed _ _ c.from_residual.ensures.1) (search (going_off, c.in_err-c.was))
 
 pub loop-turn-preserved-in-Some : goal.loop-turn-preserved-in-Some
 loop-turn-preserved-in-Some c =
-    let d = did_settle _ _ _ _ _ _ _ _ _ _ _ _ _ _ _ c.loop-turn.invariant _ _ c.front-f.ensures _ c.free_row.ensures _ _ c.settle-tried.ensures _ c.in-Taken.is in
-    search going_on
+    let d = did_settle _ _ _ _ _ _ _ _ _ _ _ _ _ _ _ c.loop-turn.invariant _ _ c.front-f.ensures _ c.free_row.ensures _ _ c.settle-tried.ensures _ c.in-Some.is in
+    search (going_on, c.in_ok-c.was)
 
 pub contend-requires : goal.contend-requires
 contend-requires c = still_steps _ _ _ _ _ _ _ _ _ _ _ _ _ _ _ c.loop-turn.invariant _ _ c.front-f.ensures _ c.free_row.ensures _ _ c.settle-tried.ensures _ c.track-t.ensures c.in_default.is
 
-pub loop-turn-smaller : goal.loop-turn-smaller
-loop-turn-smaller c = search rules
+pub returns-in_err-c-2 : goal.returns-in_err-c-2
+returns-in_err-c-2 c =
+    let d = did_contend _ _ _ _ _ _ _ _ _ _ _ _ _ _ _ c.loop-turn.invariant _ _ c.front-f.ensures _ c.free_row.ensures _ _ c.settle-tried.ensures _ _ c.in_default.is c.contend.ensures in
+    rw (passed _ _ c.from_residual-in_err-c-2.ensures.1) (search (going_off, c.in_err-c-2.was))
 
 pub loop-turn-preserved : goal.loop-turn-preserved
 loop-turn-preserved c =
     let d = did_contend _ _ _ _ _ _ _ _ _ _ _ _ _ _ _ c.loop-turn.invariant _ _ c.front-f.ensures _ c.free_row.ensures _ _ c.settle-tried.ensures _ _ c.in_default.is c.contend.ensures in
-    search going_on
-
-pub shape_of-work-in-Err-contend : goal.shape_of-work-in-Err-contend
-shape_of-work-in-Err-contend c =
-    let d = did_contend _ _ _ _ _ _ _ _ _ _ _ _ _ _ _ c.loop-turn.invariant _ _ c.front-f.ensures _ c.free_row.ensures _ _ c.settle-tried.ensures _ _ c.in_default.is c.contend.ensures in
-    search rules
-
-pub returns-in-Err-contend : goal.returns-in-Err-contend
-returns-in-Err-contend c =
-    let d = did_contend _ _ _ _ _ _ _ _ _ _ _ _ _ _ _ c.loop-turn.invariant _ _ c.front-f.ensures _ c.free_row.ensures _ _ c.settle-tried.ensures _ _ c.in_default.is c.contend.ensures in
-    search going_off
+    search (going_on, c.in_ok-c-2.was)
 
 pub returns : goal.returns
 returns c = search going_out

@@ -100,7 +100,12 @@ fn is_never(c: Option<RegPos>) -> bool
 
 // The furthest of a class's registers, the lowest of them on ties, never scratch.
 // Four at a time: past the last register the last one stands again, which changes nothing.
-pub fn furthest_of(row: [Pos; REGISTERS], first: usize, count: usize, scratch: usize) -> Option<RegPos>
+pub fn furthest_of(
+    row: [Pos; REGISTERS],
+    first: usize,
+    count: usize,
+    scratch: usize,
+) -> Option<RegPos>
     requires { first + count ≤ 64 }
     ensures { result ≡ furthest (pos_in row) scratch first count None }
 {

@@ -97,7 +97,15 @@ fn granted(
     match longest.pos {
         Pos::Blocked => None,
         Pos::At(a) => granted_until(
-            mode, mentions, safepoints, work, cap, counts, k, longest.register, a,
+            mode,
+            mentions,
+            safepoints,
+            work,
+            cap,
+            counts,
+            k,
+            longest.register,
+            a,
         ),
         Pos::Never => Some(Grant::Whole(longest.register)),
     }

@@ -166,6 +166,14 @@ pub(crate) fn take_over(
         mode, intervals, mentions, safepoints, work, cap, counts, k, r, block,
     )?;
     spill_holder(
-        mode.strategy, intervals, mentions, safepoints, work, cap, cut, start, holder,
+        mode.strategy,
+        intervals,
+        mentions,
+        safepoints,
+        work,
+        cap,
+        cut,
+        start,
+        holder,
     )
 }

@@ -81,7 +81,16 @@ pub(crate) fn weigh(
     if positions::below_of(Pos::At(f), furthest.pos) {
         let b = block[furthest.register as usize];
         return steal(
-            mode, intervals, mentions, safepoints, work, cap, counts, k, furthest.register, b,
+            mode,
+            intervals,
+            mentions,
+            safepoints,
+            work,
+            cap,
+            counts,
+            k,
+            furthest.register,
+            b,
         );
     }
     spill_until(intervals, mentions, safepoints, work, cap, counts, k, f)

@@ -2,14 +2,14 @@
 ghost use Rattle.std.specs.Prelude.{◌≡◌, ℕ, ◌+◌, ◌*◌, ◌<◌, ◌≤◌};
 ghost use Rattle.words.specs.Packed.{ClassFits, IntervalFits, MentionFits, RecordFits, class_word, range_word, fragment_word, kind_word, interval_row, mention_word, record_row};
 
-use crate::{Class, Fragment, Interval, Mention, Range, Record, fields};
+use crate::{Class, Fragment, Interval, Mention, Range, Record};
 
 pub fn class_word(c: Class) -> u32
     requires { ClassFits c }
     ensures { result ≡ class_word c }
 {
     let upper = (c.first as u32) * 256 + (c.count as u32);
-    let flagged = upper * 2 + fields::bit_of(c.scratched);
+    let flagged = upper * 2 + u32::from(c.scratched);
     (flagged * 256 + (c.scratch as u32)) * 128 + (c.spare as u32)
 }
 
@@ -30,7 +30,7 @@ fn kind_word(i: Interval) -> u32
     requires { IntervalFits i }
     ensures { result ≡ kind_word i }
 {
-    let kind = (i.class as u32) * 2 + fields::bit_of(i.reference);
+    let kind = (i.class as u32) * 2 + u32::from(i.reference);
     (kind * 4 + (i.log_size as u32)) * 67108864 + i.spare
 }
 
@@ -53,7 +53,7 @@ pub fn mention_word(m: Mention) -> u32
     ensures { result ≡ mention_word m }
 {
     let upper = (m.instruction as u32) * 16384 + (m.spare as u32);
-    let flags = (fields::bit_of(m.uses) * 2 + fields::bit_of(m.mods)) * 2 + fields::bit_of(m.defs);
+    let flags = (u32::from(m.uses) * 2 + u32::from(m.mods)) * 2 + u32::from(m.defs);
     upper * 8 + flags
 }
 

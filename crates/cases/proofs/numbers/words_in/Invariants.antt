@@ -2,8 +2,8 @@
 use Rattle.std.proofs.Common.{length, ◌-◌, ◌≤◌, ◌≡◌}
 use Rattle.cases.proofs.numbers.words_in.Given as goal
 
-abbrev pub invariant-loop-decimals : goal.invariant-loop-decimals
-invariant-loop-decimals l = (l.at ≤ l.to) × (l.n ≤ length l.out) × (length l.out ≡ length l.initial.out)
+abbrev pub invariant-loop-rest : goal.invariant-loop-rest
+invariant-loop-rest l = (l.at ≤ l.rest.to) × (l.n ≤ length l.out) × (length l.out ≡ length l.initial.out)
 
-abbrev pub decreases-loop-decimals : goal.decreases-loop-decimals
-decreases-loop-decimals l = l.to - l.at
+abbrev pub decreases-loop-rest : goal.decreases-loop-rest
+decreases-loop-rest l = l.rest.to - l.at

@@ -17,7 +17,7 @@ pub(crate) fn words_of(
     ensures stays { OnErr result (c.new ≡ c.old) }
 {
     let due = keyed::line_of(text, *c, key).ok_or(What::Expected(key))?;
-    let n = numbers::words_in(text, due.rest, decimals, out)?;
+    let n = numbers::words_in(&text[due.rest.from..due.rest.to], decimals, out)?;
     if n < decimals {
         return Err(What::TooFew);
     }
@@ -25,7 +25,7 @@ pub(crate) fn words_of(
     Ok(n)
 }
 
-// A line of numbers in decimal, as many as `out` holds.
+// A line of so many numbers in decimal.
 pub(crate) fn numbers_of<const N: usize>(
     text: &[u8],
     c: &mut Cursor,

@@ -1,7 +1,8 @@
 // Numbers of a line, in decimal and in hex.
 ghost use Rattle.std.specs.Prelude.{◌+◌, ◌<◌, ◌≤◌, length, IfOk};
 
-use crate::{Span, What, scan};
+use crate::What;
+use crate::scan::is_blank;
 
 #[derive(Clone, Copy)]
 pub(crate) enum Base {
@@ -44,22 +45,11 @@ fn number_in(word: &[u8], base: Base) -> Result<u32, What> {
 }
 
 // Reads the numbers of a line into `out`, the first `decimals` of them in decimal and the others in hex.
-pub(crate) fn words_in(
-    text: &[u8],
-    rest: Span,
-    decimals: usize,
-    out: &mut [u32],
-) -> Result<usize, What>
-    requires { (rest.from ≤ rest.to) × (rest.to ≤ length text.now) }
+pub(crate) fn words_in(line: &[u8], decimals: usize, out: &mut [u32]) -> Result<usize, What>
     ensures { IfOk result (λ n. n ≤ length out.old) }
 {
-    let mut at = rest.from;
     let mut n = 0;
-    loop {
-        let Span { from, to } = scan::next_word(text, at, rest.to);
-        if from == to {
-            return Ok(n);
-        }
+    for word in line.split(|b| is_blank(*b)).filter(|word| !word.is_empty()) {
         if n == out.len() {
             return Err(What::TooMany);
         }
@@ -68,8 +58,8 @@ pub(crate) fn words_in(
         } else {
             Base::Sixteen
         };
-        out[n] = number_in(&text[from..to], base)?;
+        out[n] = number_in(word, base)?;
         n += 1;
-        at = to;
     }
+    Ok(n)
 }

@@ -13,7 +13,7 @@ pub(crate) struct Line {
 }
 
 // The library's `is_ascii_whitespace` also takes a form feed, which is a byte of a word here.
-fn is_blank(b: u8) -> bool {
+pub(crate) fn is_blank(b: u8) -> bool {
     matches!(b, b' ' | b'\t' | b'\r')
 }
 

@@ -36,9 +36,13 @@ fn nowhere(number: u32) -> &'static str {
     }
 }
 
-// Answers 4 to 8: a table that is not sound.
-fn table(number: u32) -> &'static str {
+// Why it was given: 2 to 9 at entry or at the end, 10 to 13 during a run, and 14 by the checker.
+fn cause(number: u32) -> &'static str {
     match number {
+        1 => "done, every value has a place at each of its points",
+        2 => "the strategy is none of 1 to 7",
+        3 =>
+            "a count is over its limit, there is no class, the interval words are not four to each, or a claim counts more records than it has",
         4 => "the class is not sound in its registers, its scratch register or its spare bits",
         5 =>
             "the interval is not sound in its class, its points, its spare bits, or its mentions and safepoints do not follow on",
@@ -48,26 +52,8 @@ fn table(number: u32) -> &'static str {
             "the safepoint is not on a reference, lies outside its interval, does not come after the one before, or meets a mere use",
         8 =>
             "the fixed fragments of the register are not in order, not inside the program, or do not follow on",
-        _ => "there is no such answer, since they are numbered 1 to 14",
-    }
-}
-
-// Answers 1 to 9, given at entry or at the end.
-fn entry(number: u32) -> &'static str {
-    match number {
-        1 => "done, every value has a place at each of its points",
-        2 => "the strategy is none of 1 to 7",
-        3 =>
-            "a count is over its limit, there is no class, the interval words are not four to each, or a claim counts more records than it has",
         9 =>
             "the room is too small, either fewer result records than intervals or too few work words",
-        _ => table(number),
-    }
-}
-
-// Answers 10 to 14, given during a run or by the checker.
-fn cause(number: u32) -> &'static str {
-    match number {
         10 => "the record has to be split, and all result records are used",
         11 => "the record has a mention, and its class has no register besides scratch",
         12 =>
@@ -75,7 +61,7 @@ fn cause(number: u32) -> &'static str {
         13 =>
             "the record is mentioned at the very point where a fixed fragment of its register begins",
         14 => "the claimed placement breaks this rule and none below it",
-        _ => entry(number),
+        _ => "there is no such answer, since they are numbered 1 to 14",
     }
 }
 

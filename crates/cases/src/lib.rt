@@ -72,6 +72,7 @@ pub enum What {
 }
 
 // The lent words: each table of a case is read into its own, and the claim into the last.
+#[derive(Drop)]
 pub struct Tables<'t> {
     pub classes: &'t mut [u32],
     pub registers: &'t mut [u32],

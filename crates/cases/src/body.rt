@@ -29,9 +29,13 @@ fn options_of(text: &[u8], c: &mut Cursor) -> Result<Options, What>
     ensures { OnOk result (c.new.at ≤ length text.now) }
 {
     let mut after = *c;
-    let [strategy, partial, near_end] = lines::numbers_of::<3>(text, &mut after, Key::Opts)?;
+    let mut asked = [0; 3];
+    let read = lines::words_of(text, &mut after, Key::Opts, asked.len(), &mut asked);
+    // A wrong flag is told first, also where the line has too many or too few numbers.
+    let [strategy, partial, near_end] = asked;
     let partial_split = flag(partial)?;
     let partial_split_near_end = flag(near_end)?;
+    read?;
     *c = after;
     let [instructions] = lines::numbers_of::<1>(text, c, Key::Insts)?;
     Ok(Options {

@@ -32,53 +32,53 @@ fn line(name: &[u8], reply: Reply, words: &[u32], out: &mut [u8]) {
 }
 
 // The assigner's answer, in the room that the case asks for.
-fn assigned(k: Case, tables: &Tables, res: &mut [u32], work: &mut [u32]) -> Reply {
-    let space = lent(k.room, res.len(), work.len());
-    temgurisk::reply_of(assign::call::assign(
-        k.options.strategy,
-        k.options.partial_split,
-        k.options.partial_split_near_end,
-        k.options.instructions,
-        first(tables.classes, k.counts.classes),
-        first(tables.registers, k.counts.registers),
-        first(tables.fragments, k.counts.fragments),
-        first(tables.intervals, k.counts.intervals),
-        first(tables.mentions, k.counts.mentions),
-        first(tables.safepoints, k.counts.safepoints),
+fn assigned(case: Case, tables: &Tables, res: &mut [u32], work: &mut [u32]) -> Reply {
+    let space = lent(case.room, res.len(), work.len());
+    temgurisk::temgurisk_assign(
+        case.options.strategy,
+        case.options.partial_split,
+        case.options.partial_split_near_end,
+        case.options.instructions,
+        first(tables.classes, case.counts.classes),
+        first(tables.registers, case.counts.registers),
+        first(tables.fragments, case.counts.fragments),
+        first(tables.intervals, case.counts.intervals),
+        first(tables.mentions, case.counts.mentions),
+        first(tables.safepoints, case.counts.safepoints),
         &mut res[..space.result],
         &mut work[..space.work],
-    ))
+    )
 }
 
 // The checker's answer to a claim, the first n words: its count and total, and the claimed words.
-fn checked(k: Case, tables: &Tables, n: usize) -> Reply
+fn checked(case: Case, tables: &Tables, n: usize) -> Reply
     requires { (2 ≤ n) × (n ≤ length tables.now.claim.now) }
 {
-    temgurisk::reply_of(checker::check(
-        k.options.instructions,
-        first(tables.classes, k.counts.classes),
-        first(tables.registers, k.counts.registers),
-        first(tables.fragments, k.counts.fragments),
-        first(tables.intervals, k.counts.intervals),
-        first(tables.mentions, k.counts.mentions),
-        first(tables.safepoints, k.counts.safepoints),
+    temgurisk::temgurisk_check(
+        case.options.instructions,
+        first(tables.classes, case.counts.classes),
+        first(tables.registers, case.counts.registers),
+        first(tables.fragments, case.counts.fragments),
+        first(tables.intervals, case.counts.intervals),
+        first(tables.mentions, case.counts.mentions),
+        first(tables.safepoints, case.counts.safepoints),
         &tables.claim[CLAIM_NUMBERS..n],
         tables.claim[0],
         tables.claim[1],
-    ))
+    )
 }
 
 // Assigns, and writes the answer in words or for a person. The words that follow it are the records of a done assignment.
 fn assign_case(
     way: Way,
     name: &[u8],
-    k: Case,
+    case: Case,
     tables: &Tables,
     res: &mut [u32],
     work: &mut [u32],
     out: &mut [u8],
 ) {
-    let reply = assigned(k, tables, res, work);
+    let reply = assigned(case, tables, res, work);
     let n = if reply.number == DONE {
         record_words(reply.count, res.len())
     } else {
@@ -92,22 +92,22 @@ fn assign_case(
 }
 
 // Checks the claim. A case without one is told as one that cannot be read, at the line before the next: that of the word `end`, where a claim was due.
-fn check_case(text: &[u8], k: Case, tables: &Tables, out: &mut [u8])
-    requires { Named (length text.now) (length tables.now.claim.now) k }
+fn check_case(text: &[u8], case: Case, tables: &Tables, out: &mut [u8])
+    requires { Named (length text.now) (length tables.now.claim.now) case }
 {
-    match k.claim {
+    match case.claim {
         None => {
             let trouble = Trouble {
-                name: k.name,
-                line: k.next.line.saturating_sub(1),
+                name: case.name,
+                line: case.next.line.saturating_sub(1),
                 what: What::Expected(Key::Claim),
-                next: k.next,
+                next: case.next,
             };
             trouble::tell(text, trouble, out);
         }
         Some(n) => {
-            let reply = checked(k, tables, n);
-            line(&text[k.name.from..k.name.to], reply, &[], out);
+            let reply = checked(case, tables, n);
+            line(&text[case.name.from..case.name.to], reply, &[], out);
         }
     }
 }
@@ -116,19 +116,19 @@ fn check_case(text: &[u8], k: Case, tables: &Tables, out: &mut [u8])
 pub fn answer(
     way: Way,
     text: &[u8],
-    k: Case,
+    case: Case,
     tables: &Tables,
     res: &mut [u32],
     work: &mut [u32],
     out: &mut [u8],
 )
-    requires { Named (length text.now) (length tables.now.claim.now) k }
+    requires { Named (length text.now) (length tables.now.claim.now) case }
 {
     match way {
-        Way::Check => check_case(text, k, tables, out),
+        Way::Check => check_case(text, case, tables, out),
         Way::Assign | Way::Show => {
-            let name = &text[k.name.from..k.name.to];
-            assign_case(way, name, k, tables, res, work, out);
+            let name = &text[case.name.from..case.name.to];
+            assign_case(way, name, case, tables, res, work, out);
         }
     }
 }

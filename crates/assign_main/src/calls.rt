@@ -23,7 +23,7 @@ pub(crate) struct Manner {
 
 impl Tables<'_> {
     pub(crate) fn assigned(&self, manner: Manner, res: &mut [u32], work: &mut [u32]) -> Reply {
-        temgurisk::reply_of(assign::call::assign(
+        temgurisk::temgurisk_assign(
             manner.strategy,
             manner.partial_split,
             manner.near_end,
@@ -36,11 +36,11 @@ impl Tables<'_> {
             self.safepoints,
             res,
             work,
-        ))
+        )
     }
 
     pub(crate) fn checked(&self, words: &[u32], count: u32, total: u32) -> Reply {
-        temgurisk::reply_of(checker::check(
+        temgurisk::temgurisk_check(
             self.instructions,
             self.classes,
             self.registers,
@@ -51,6 +51,6 @@ impl Tables<'_> {
             words,
             count,
             total,
-        ))
+        )
     }
 }

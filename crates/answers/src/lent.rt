@@ -11,34 +11,15 @@ pub(crate) struct Space {
     pub work: usize,
 }
 
-pub(crate) fn least(a: usize, b: usize) -> usize
-    ensures upper_bound { result ≤ a }
-    ensures upper_bound_2 { result ≤ b }
-{
-    if a < b {
-        return a;
-    }
-    b
-}
-
-fn wide(n: u32) -> usize
-    ensures { result ≤ 4294967295 }
-{
-    n as usize
-}
-
 // The room that was asked for, cut to what there is: more than the most changes no answer.
-pub(crate) fn lent(room: Room, res: usize, work: usize) -> Space
-    ensures { Lends res work result }
+pub(crate) fn lent(room: Option<Room>, area: usize, work: usize) -> Space
+    ensures { Lends area work result }
 {
     match room {
-        Room::Most => Space {
-            result: res,
-            work: work,
-        },
-        Room::Words { result: r, work: w } => Space {
-            result: least(wide(r), res),
-            work: least(wide(w), work),
+        None => Space { result: area, work },
+        Some(room) => Space {
+            result: area.min(room.result as usize),
+            work: work.min(room.work as usize),
         },
     }
 }
@@ -47,15 +28,12 @@ pub(crate) fn lent(room: Room, res: usize, work: usize) -> Space
 pub(crate) fn record_words(count: u32, len: usize) -> usize
     ensures { result ≤ len }
 {
-    least(wide(count) * 2, len)
+    len.min(count as usize * 2)
 }
 
 // The first n words of a table, or all where there are fewer.
-pub(crate) fn first<'t>(table: &'t [u32], n: usize) -> &'t [u32]
+pub(crate) fn first(table: &[u32], n: usize) -> &[u32]
     ensures { result.now ≡ take n table.now }
 {
-    if n < table.len() {
-        return &table[..n];
-    }
-    table
+    &table[..n.min(table.len())]
 }

@@ -4,6 +4,7 @@
 pub mod answer;
 pub mod explain;
 mod lent;
+mod meaning;
 mod show;
 mod sink;
 pub mod trouble;
@@ -14,7 +15,7 @@ pub const STDOUT_FILENO: i32 = 1;
 pub const STDERR_FILENO: i32 = 2;
 
 // What is done with each case.
-#[derive(Clone, Copy)]
+#[derive(Clone, Copy, Debug, PartialEq, Eq)]
 pub enum Way {
     // Assign, and write the answer's words.
     Assign,

@@ -1,57 +1,60 @@
-// Bytes for a file, collected in lent bytes and written where a line ends or no more would fit. Bytes that were put stand at 0..at.
+// Bytes for a file, collected in lent bytes and written where a line ends or no more would fit.
+ghost use Rattle.std.specs.Prelude.{◌≤◌, length};
 
-// How many bytes are left after `at`.
-fn left(len: usize, at: usize) -> usize {
-    if len < at {
-        return 0;
+use crate::STDERR_FILENO;
+use std::fmt;
+
+#[derive(Drop)]
+pub(crate) struct Sink<'b> {
+    fd: i32,
+    bytes: &'b mut [u8],
+    // So many of them are put, and not written yet.
+    at: usize,
+    ghost in_range: { at ≤ length bytes.now },
+}
+
+fn write(fd: i32, bytes: &[u8]) {
+    if !io::write_all(fd, bytes) {
+        io::write_all(STDERR_FILENO, b"a line could not be written\n");
     }
-    len - at
 }
 
-// Writes what was put.
-pub(crate) fn flush(fd: i32, out: &[u8], at: usize) {
-    let start = 0usize;
-    let n = crate::lent::least(at, out.len());
-    if !io::write_all(fd, &out[start..n]) {
-        io::write_all(crate::STDERR_FILENO, b"a line could not be written\n");
+impl<'b> Sink<'b> {
+    pub(crate) fn new(fd: i32, bytes: &'b mut [u8]) -> Sink<'b> {
+        Sink { fd, bytes, at: 0 }
+    }
+
+    // Writes what was put.
+    fn flush(&mut self) {
+        write(self.fd, &self.bytes[..self.at]);
+        self.at = 0;
+    }
+
+    // Puts bytes. What is longer than all the lent bytes is written at once.
+    pub(crate) fn put(&mut self, bytes: &[u8]) {
+        if self.bytes.len() - self.at < bytes.len() {
+            self.flush();
+        }
+        if self.bytes.len() - self.at < bytes.len() {
+            write(self.fd, bytes);
+            return;
+        }
+        let end = self.at + bytes.len();
+        self.bytes[self.at..end].copy_from_slice(bytes);
+        self.at = end;
+    }
+
+    // The end of a line.
+    pub(crate) fn end_line(&mut self) {
+        self.put(b"\n");
+        self.flush();
     }
 }
 
-// Puts bytes, and answers the place after them. What is longer than all the lent bytes is written at once.
-pub(crate) fn put(fd: i32, out: &mut [u8], at: usize, bytes: &[u8]) -> usize {
-    if bytes.len() <= left(out.len(), at) {
-        return cases::write::put(out, at, bytes);
+impl fmt::Write for Sink<'_> {
+    // Takes every text: where one cannot be written, that is told on standard error.
+    fn write_str(&mut self, s: &str) -> fmt::Result {
+        self.put(s.as_bytes());
+        Ok(())
     }
-    flush(fd, &out[..], at);
-    if bytes.len() <= out.len() {
-        return cases::write::put(out, 0, bytes);
-    }
-    flush(fd, bytes, bytes.len());
-    0
-}
-
-// A number in decimal.
-pub(crate) fn put_decimal(fd: i32, out: &mut [u8], at: usize, n: u32) -> usize {
-    let mut digits = [0u8; 20];
-    let k = io::decimal(n as u64, &mut digits);
-    put(fd, out, at, &digits[..k])
-}
-
-// A word in hex, 8 digits.
-pub(crate) fn put_hex(fd: i32, out: &mut [u8], at: usize, n: u32) -> usize {
-    let mut digits = [0u8; 16];
-    let k = io::hex(n as u64, 8, &mut digits);
-    put(fd, out, at, &digits[..k])
-}
-
-// A number after some bytes.
-pub(crate) fn put_after(fd: i32, out: &mut [u8], at: usize, before: &[u8], n: u32) -> usize {
-    let next = put(fd, out, at, before);
-    put_decimal(fd, out, next, n)
-}
-
-// The end of a line.
-pub(crate) fn end(fd: i32, out: &mut [u8], at: usize) {
-    let next = put(fd, out, at, b"\n");
-    flush(fd, &out[..], next);
 }

@@ -8,21 +8,18 @@ mod limits;
 mod print;
 mod small;
 
-fn main() {
+fn main(rt: HostRuntime) -> std::io::Result<()> {
     let mut space = io::large_buffer();
     let n = io::read_full(0, &mut space);
-    small::cases(&space[..n]);
-    damage::each_rule();
-    limits::instructions();
-    limits::classes();
-    limits::registers();
-    limits::intervals();
-    limits::exact_areas();
-    limits::short_result();
-    limits::short_work();
-    limits::short_most();
-    limits::mentions();
-    limits::safepoints();
-    limits::fragments();
-    limits::records();
+    small::cases(&rt, &space[..n])?;
+    damage::each_rule(&rt)?;
+    limits::instructions(&rt)?;
+    limits::classes(&rt)?;
+    limits::registers(&rt)?;
+    limits::intervals(&rt)?;
+    limits::areas(&rt)?;
+    limits::mentions(&rt)?;
+    limits::safepoints(&rt)?;
+    limits::fragments(&rt)?;
+    limits::records(&rt)
 }

@@ -1,56 +1,49 @@
-// A line of the output: label, number, place, count and total, and then words in hex, or their digest.
+// Parts of a line: an answer's number, place, count and total, words in hex or numbers, each after a space; and a digest of words.
+use std::fmt;
 use temgurisk::Reply;
 
-const OUT: i32 = 1;
+#[derive(Clone, Copy, Drop)]
+pub(crate) struct Told(pub Reply);
 
-const WORD_DIGITS: usize = 8;
-
-pub(crate) fn text(bytes: &[u8]) {
-    io::write_all(OUT, bytes);
-}
-
-pub(crate) fn number(n: u32) {
-    text(b" ");
-    io::print_decimal(OUT, n as u64);
-}
-
-pub(crate) fn word(w: u32) {
-    text(b" ");
-    io::print_hex(OUT, w as u64, WORD_DIGITS);
-}
-
-pub(crate) fn reply(label: &[u8], r: Reply) {
-    text(label);
-    text(b":");
-    number(r.number);
-    number(r.place);
-    number(r.count);
-    number(r.total);
-}
-
-pub(crate) fn words(t: &[u32]) {
-    let mut i = 0;
-    while i < t.len() {
-        word(t[i]);
-        i += 1;
+impl fmt::Display for Told {
+    fn fmt<W: fmt::Write>(&self, f: &mut fmt::Formatter<W>) -> fmt::Result {
+        let Reply {
+            number,
+            place,
+            count,
+            total,
+        } = self.0;
+        write!(f, " {number} {place} {count} {total}")
     }
 }
 
-pub(crate) fn numbers(t: &[u32]) {
-    let mut i = 0;
-    while i < t.len() {
-        number(t[i]);
-        i += 1;
+#[derive(Clone, Copy, Drop)]
+pub(crate) struct Words<'w>(pub &'w [u32]);
+
+impl fmt::Display for Words<'_> {
+    fn fmt<W: fmt::Write>(&self, f: &mut fmt::Formatter<W>) -> fmt::Result {
+        for word in self.0 {
+            write!(f, " {word:08x}")?;
+        }
+        Ok(())
+    }
+}
+
+#[derive(Clone, Copy, Drop)]
+pub(crate) struct Numbers<'n>(pub &'n [u32]);
+
+impl fmt::Display for Numbers<'_> {
+    fn fmt<W: fmt::Write>(&self, f: &mut fmt::Formatter<W>) -> fmt::Result {
+        for number in self.0 {
+            write!(f, " {number}")?;
+        }
+        Ok(())
     }
 }
 
 // The sum of the words, turned to the left by a bit before each one, so that their order counts too.
-pub(crate) fn digest(t: &[u32]) -> u32 {
-    let mut d = 0u32;
-    let mut i = 0;
-    while i < t.len() {
-        d = (d << 1 | d >> 31).wrapping_add(t[i]);
-        i += 1;
-    }
-    d
+pub(crate) fn digest(words: &[u32]) -> u32 {
+    words
+        .iter()
+        .fold(0u32, |sum, word| sum.rotate_left(1).wrapping_add(*word))
 }

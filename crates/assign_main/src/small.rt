@@ -1,6 +1,10 @@
 // The cases of standard input: a line for each, with the whole result area, 77777777 where nothing was written. Where a case is refused at entry, also the digest of the work area before and after the call. Where a case has a claim, the result is checked with its count and total, and then damaged.
-use crate::{calls, damage, fill, print};
-use cases::{Case, Claim, Cursor, Options, Read, Room, reader};
+use crate::calls::{Manner, Tables};
+use crate::print::{Told, Words, digest};
+use crate::{damage, fill};
+use cases::{Case, Cursor, reader};
+use std::io;
+use std::io::Print;
 
 const UNWRITTEN: u32 = 0x77777777;
 
@@ -22,215 +26,84 @@ const RESULT_WORDS: usize = 16;
 
 const WORK_WORDS: usize = 320;
 
-#[derive(Clone, Copy)]
-enum Went {
-    On(Cursor),
-    Over,
-}
-
 // A case, called on areas that are filled, and what it leaves.
 fn called(
-    label: &[u8],
-    options: Options,
-    classes: &[u32],
-    registers: &[u32],
-    fragments: &[u32],
-    intervals: &[u32],
-    mentions: &[u32],
-    safepoints: &[u32],
+    rt: &impl Print,
+    name: &[u8],
+    manner: Manner,
+    tables: &Tables,
     res: &mut [u32],
     work: &mut [u32],
-) {
-    let before = print::digest(&work[..]);
-    let reply = calls::assigned(
-        options.strategy,
-        options.partial_split,
-        options.partial_split_near_end,
-        options.instructions,
-        classes,
-        registers,
-        fragments,
-        intervals,
-        mentions,
-        safepoints,
-        res,
-        work,
-    );
-    print::reply(label, reply);
-    print::text(b" |");
-    print::words(&res[..]);
+) -> io::Result<()> {
+    let before = digest(work);
+    let reply = tables.assigned(manner, res, work);
+    rt.write_all(name)?;
+    print!(rt; ":{} |{}", Told(reply), Words(res))?;
     if DONE < reply.number && reply.number <= LAST_AT_ENTRY {
-        print::text(b" | work");
-        print::word(before);
-        print::word(print::digest(&work[..]));
+        print!(rt; " | work {before:08x} {:08x}", digest(work))?;
     }
-    print::text(b"\n");
+    println!(rt; "")
 }
 
-// .. and where there is a claim, its result damaged.
-fn judged(
-    label: &[u8],
-    options: Options,
-    classes: &[u32],
-    registers: &[u32],
-    fragments: &[u32],
-    intervals: &[u32],
-    mentions: &[u32],
-    safepoints: &[u32],
-    claim: Claim,
-    count: u32,
-    total: u32,
-    res: &mut [u32],
-    work: &mut [u32],
-) {
-    called(
-        label, options, classes, registers, fragments, intervals, mentions, safepoints, res, work,
-    );
-    if let Claim::Words(n) = claim {
-        damage::copies(
-            options.instructions,
-            classes,
-            registers,
-            fragments,
-            intervals,
-            mentions,
-            safepoints,
-            res,
-            count,
-            total,
-        );
-    }
-}
-
-// .. with the room that it asks for. Where there is less, no line is written.
-fn roomed(
-    label: &[u8],
-    options: Options,
-    classes: &[u32],
-    registers: &[u32],
-    fragments: &[u32],
-    intervals: &[u32],
-    mentions: &[u32],
-    safepoints: &[u32],
-    claim: Claim,
-    count: u32,
-    total: u32,
-    res: &mut [u32],
-    area: usize,
-    work: &mut [u32],
-    space: usize,
-) {
-    if res.len() < area {
-        return;
-    }
-    if work.len() < space {
-        return;
-    }
-    judged(
-        label,
-        options,
-        classes,
-        registers,
-        fragments,
-        intervals,
-        mentions,
-        safepoints,
-        claim,
-        count,
-        total,
-        &mut res[..area],
-        &mut work[..space],
-    );
-}
-
-fn shown(
-    text: &[u8],
-    case: Case,
-    classes: &[u32; SHORT],
-    registers: &[u32; SHORT],
-    fragments: &[u32; SHORT],
-    intervals: &[u32; LONG],
-    mentions: &[u32; LONG],
-    safepoints: &[u32; SHORT],
-    claim: &[u32; CLAIM_WORDS],
-) {
+// .. with the room that it asks for, and where there is a claim, its result damaged. Where there is less room, no line is written.
+fn shown(rt: &impl Print, name: &[u8], case: Case, lent: &cases::Tables) -> io::Result<()> {
+    let Some(room) = case.room else {
+        return Ok(());
+    };
     let mut result = [UNWRITTEN; RESULT_WORDS];
     let mut work = [UNTOUCHED; WORK_WORDS];
-    let name = case.name;
-    let options = case.options;
-    let counts = case.counts;
-    let claimed = case.claim;
-    let room = case.room;
-    if let Room::Words { result: n, work: m } = room {
-        roomed(
-            fill::bytes(text, name.from, name.to),
-            options,
-            fill::part(classes, counts.classes),
-            fill::part(registers, counts.registers),
-            fill::part(fragments, counts.fragments),
-            fill::part(intervals, counts.intervals),
-            fill::part(mentions, counts.mentions),
-            fill::part(safepoints, counts.safepoints),
-            claimed,
-            claim[0],
-            claim[1],
-            &mut result,
-            n as usize,
-            &mut work,
-            m as usize,
-        );
+    let area = room.result as usize;
+    let space = room.work as usize;
+    if result.len() < area || work.len() < space {
+        return Ok(());
     }
+    let res = &mut result[..area];
+    let tables = Tables {
+        instructions: case.options.instructions,
+        classes: fill::part(lent.classes, case.counts.classes),
+        registers: fill::part(lent.registers, case.counts.registers),
+        fragments: fill::part(lent.fragments, case.counts.fragments),
+        intervals: fill::part(lent.intervals, case.counts.intervals),
+        mentions: fill::part(lent.mentions, case.counts.mentions),
+        safepoints: fill::part(lent.safepoints, case.counts.safepoints),
+    };
+    let manner = Manner {
+        strategy: case.options.strategy,
+        partial_split: case.options.partial_split,
+        near_end: case.options.partial_split_near_end,
+    };
+    called(rt, name, manner, &tables, res, &mut work[..space])?;
+    if let (Some(_), [count, total]) = (case.claim, &lent.claim[..]) {
+        damage::copies(rt, &tables, res, *count, *total)?;
+    }
+    Ok(())
 }
 
-fn next(text: &[u8], c: Cursor) -> Went {
-    let mut classes = [0u32; SHORT];
-    let mut registers = [0u32; SHORT];
-    let mut fragments = [0u32; SHORT];
-    let mut intervals = [0u32; LONG];
-    let mut mentions = [0u32; LONG];
-    let mut safepoints = [0u32; SHORT];
-    let mut claim = [0u32; CLAIM_WORDS];
-    let read = reader::read(
-        text,
-        c,
-        &mut classes,
-        &mut registers,
-        &mut fragments,
-        &mut intervals,
-        &mut mentions,
-        &mut safepoints,
-        &mut claim,
-    );
-    match read {
-        Read::Case(case) => {
-            shown(
-                text,
-                case,
-                &classes,
-                &registers,
-                &fragments,
-                &intervals,
-                &mentions,
-                &safepoints,
-                &claim,
-            );
-            let after = case.next;
-            Went::On(after)
-        }
-        Read::Bad(trouble) => Went::Over,
-        Read::End => Went::Over,
-    }
+// The next case. Where the one after it starts, unless there is none or this one cannot be read.
+fn next(rt: &impl Print, text: &[u8], c: Cursor) -> io::Result<Option<Cursor>> {
+    let mut lent = cases::Tables {
+        classes: &mut [0; SHORT],
+        registers: &mut [0; SHORT],
+        fragments: &mut [0; SHORT],
+        intervals: &mut [0; LONG],
+        mentions: &mut [0; LONG],
+        safepoints: &mut [0; SHORT],
+        claim: &mut [0; CLAIM_WORDS],
+    };
+    let Some(Ok(case)) = reader::read(text, c, &mut lent) else {
+        return Ok(None);
+    };
+    shown(rt, &text[case.name.from..case.name.to], case, &lent)?;
+    Ok(Some(case.next))
 }
 
-pub(crate) fn cases(text: &[u8]) {
+pub(crate) fn cases(rt: &impl Print, text: &[u8]) -> io::Result<()> {
     let mut c = reader::start();
-    let mut i = 0;
-    while i < MOST_CASES {
-        let turned = next(text, c);
-        let Went::On(further) = turned else {
-            return;
+    for _ in 0..MOST_CASES {
+        let Some(further) = next(rt, text, c)? else {
+            return Ok(());
         };
         c = further;
-        i += 1;
     }
+    Ok(())
 }

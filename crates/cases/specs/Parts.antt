@@ -1,35 +1,29 @@
--- Facts for contracts: what the parts of a case hold lies inside the text and inside the lent tables.
-use Rattle.std.specs.Prelude.{ℕ, ◌≤◌}
-use Rattle.cases.specs.Bounds.{Within, ClaimFits}
+-- Facts for contracts: what the parts of a case hold lies inside the lent tables.
+use Rattle.std.specs.Prelude.{◌≡◌, ◌≤◌, length}
+use Rattle.cases.specs.Bounds.{ClaimFits}
 use Rattle.cases.specs.declared.Counts.{Counts}
-use Rattle.cases.specs.declared.body.Counted.{Counted}
-use Rattle.cases.specs.declared.body.Tables.{Tables}
-use Rattle.cases.specs.declared.body.ClaimLine.{ClaimLine}
+use Rattle.cases.specs.declared.Tables.{Tables}
 use Rattle.cases.specs.declared.body.Body.{Body}
 
--- as many words as a lent table of m words holds
-pub record Taken (n m : ℕ) (t : Counted) : Type 0 where
-  pub fits : t.count ≤ m
-  pub within : Within n t.step
+-- each of the lent tables has as many words as before
+pub record SameRoom (t u : Tables) : Type 0 where
+  pub classes : length u.classes.now ≡ length t.classes.now
+  pub registers : length u.registers.now ≡ length t.registers.now
+  pub fragments : length u.fragments.now ≡ length t.fragments.now
+  pub intervals : length u.intervals.now ≡ length t.intervals.now
+  pub mentions : length u.mentions.now ≡ length t.mentions.now
+  pub safepoints : length u.safepoints.now ≡ length t.safepoints.now
+  pub claim : length u.claim.now ≡ length t.claim.now
 
 -- the counts of the six tables, each of at most as many words as were lent
-pub record Fitting (a b c d e f : ℕ) (k : Counts) : Type 0 where
-  pub classes : k.classes ≤ a
-  pub registers : k.registers ≤ b
-  pub fragments : k.fragments ≤ c
-  pub intervals : k.intervals ≤ d
-  pub mentions : k.mentions ≤ e
-  pub safepoints : k.safepoints ≤ f
+pub record Fitting (t : Tables) (k : Counts) : Type 0 where
+  pub classes : k.classes ≤ length t.classes.now
+  pub registers : k.registers ≤ length t.registers.now
+  pub fragments : k.fragments ≤ length t.fragments.now
+  pub intervals : k.intervals ≤ length t.intervals.now
+  pub mentions : k.mentions ≤ length t.mentions.now
+  pub safepoints : k.safepoints ≤ length t.safepoints.now
 
-pub record AllTaken (n a b c d e f : ℕ) (t : Tables) : Type 0 where
-  pub counts : Fitting a b c d e f t.counts
-  pub within : Within n t.step
-
-pub record Asking (n m : ℕ) (l : ClaimLine) : Type 0 where
-  pub fits : ClaimFits m l.claim
-  pub within : Within n l.step
-
-pub record Whole (n a b c d e f g : ℕ) (k : Body) : Type 0 where
-  pub counts : Fitting a b c d e f k.counts
-  pub claim : ClaimFits g k.claim
-  pub within : Within n k.step
+pub record Whole (t : Tables) (k : Body) : Type 0 where
+  pub counts : Fitting t k.counts
+  pub claim : ClaimFits (length t.claim.now) k.claim

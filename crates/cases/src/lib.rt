@@ -18,24 +18,25 @@ mod lines;
 mod numbers;
 pub mod reader;
 mod scan;
+mod told;
 pub mod write;
 
 // Where a reader stands: at a byte, on a line. Lines are counted from 1.
-#[derive(Clone, Copy)]
+#[derive(Clone, Copy, Debug, PartialEq, Eq)]
 pub struct Cursor {
     pub at: usize,
     pub line: u32,
 }
 
 // The bytes from..to of the text.
-#[derive(Clone, Copy)]
+#[derive(Clone, Copy, Debug, PartialEq, Eq)]
 pub struct Span {
     pub from: usize,
     pub to: usize,
 }
 
 // The first words of a line.
-#[derive(Clone, Copy)]
+#[derive(Clone, Copy, Debug, PartialEq, Eq)]
 pub enum Key {
     Case,
     Opts,
@@ -52,7 +53,7 @@ pub enum Key {
 }
 
 // What is wrong with a line.
-#[derive(Clone, Copy)]
+#[derive(Clone, Copy, Debug, PartialEq, Eq)]
 pub enum What {
     // Another first word was due.
     Expected(Key),
@@ -70,8 +71,20 @@ pub enum What {
     NotAFlag,
 }
 
+// The lent words: each table of a case is read into its own, and the claim into the last.
+#[derive(Drop)]
+pub struct Tables<'t> {
+    pub classes: &'t mut [u32],
+    pub registers: &'t mut [u32],
+    pub fragments: &'t mut [u32],
+    pub intervals: &'t mut [u32],
+    pub mentions: &'t mut [u32],
+    pub safepoints: &'t mut [u32],
+    pub claim: &'t mut [u32],
+}
+
 // How many words of each lent table the case has.
-#[derive(Clone, Copy)]
+#[derive(Clone, Copy, Debug, PartialEq, Eq)]
 pub struct Counts {
     pub classes: usize,
     pub registers: usize,
@@ -82,20 +95,13 @@ pub struct Counts {
 }
 
 // The room that a case asks for, in words.
-#[derive(Clone, Copy)]
-pub enum Room {
-    Most,
-    Words { result: u32, work: u32 },
+#[derive(Clone, Copy, Debug, PartialEq, Eq)]
+pub struct Room {
+    pub result: u32,
+    pub work: u32,
 }
 
-// The claim of a case: so many words of the lent table, the claimed count and total first.
-#[derive(Clone, Copy)]
-pub enum Claim {
-    Missing,
-    Words(usize),
-}
-
-#[derive(Clone, Copy)]
+#[derive(Clone, Copy, Debug, PartialEq, Eq)]
 pub struct Options {
     pub strategy: u32,
     pub partial_split: bool,
@@ -103,28 +109,23 @@ pub struct Options {
     pub instructions: u32,
 }
 
-#[derive(Clone, Copy)]
+#[derive(Clone, Copy, Debug, PartialEq, Eq)]
 pub struct Case {
     pub name: Span,
     pub options: Options,
     pub counts: Counts,
-    pub room: Room,
-    pub claim: Claim,
+    // The most room there is, where the case asks for none.
+    pub room: Option<Room>,
+    // So many words of the lent table, the claimed count and total first.
+    pub claim: Option<usize>,
     pub next: Cursor,
 }
 
 // A case that cannot be read. Its name is empty where not even that was read.
-#[derive(Clone, Copy)]
+#[derive(Clone, Copy, Debug, PartialEq, Eq)]
 pub struct Trouble {
     pub name: Span,
     pub line: u32,
     pub what: What,
     pub next: Cursor,
-}
-
-#[derive(Clone, Copy)]
-pub enum Read {
-    Case(Case),
-    Bad(Trouble),
-    End,
 }

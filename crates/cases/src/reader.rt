@@ -1,12 +1,10 @@
 // The reader: one case after the other. After one that cannot be read it goes on past its `end`, or at the next `case`.
-ghost use Rattle.std.specs.Prelude.{◌≡◌, ℕ, ◌+◌, ◌<◌, ◌≤◌, length};
+ghost use Rattle.std.specs.Prelude.{◌≡◌, ℕ, ◌+◌, ◌<◌, ◌≤◌, length, MatchResult};
 ghost use Rattle.cases.specs.Bounds.{Named};
-ghost use Rattle.cases.specs.Parts.{Whole};
-ghost use Rattle.cases.specs.Reading.{Told, Reads, Onward};
+ghost use Rattle.cases.specs.Parts.{SameRoom};
+ghost use Rattle.cases.specs.Reading.{Told, Reads, Onward, Good};
 
-use crate::body::Body;
-use crate::lines::{Fault, Step, Title};
-use crate::{Case, Cursor, Key, Read, Span, Trouble, body, keyed, lines, scan};
+use crate::{Case, Cursor, Key, Span, Tables, Trouble, What, body, keyed, lines, scan};
 
 // The start of a text.
 pub fn start() -> Cursor
@@ -20,35 +18,22 @@ pub fn start() -> Cursor
 fn recovered(text: &[u8], c: Cursor) -> Cursor
     ensures { result.at ≤ length text.now }
 {
-    let mut at = c.at;
-    let mut number = c.line;
+    let mut at = c;
     loop {
-        let line = scan::next_line(
-            text,
-            Cursor {
-                at: at,
-                line: number,
-            },
-        );
-        let from = line.text.from;
-        let to = line.text.to;
+        let line = scan::next_line(text, at);
+        let Span { from, to } = line.text;
         if from == to {
             return line.next;
         }
         let word = scan::next_word(text, from, to);
-        let start = word.from;
-        let end = word.to;
-        if keyed::is_key(&text[start..end], Key::Case) {
-            return Cursor {
-                at: at,
-                line: number,
-            };
+        let word = &text[word.from..word.to];
+        if keyed::is_key(word, Key::Case) {
+            return at;
         }
-        if keyed::is_key(&text[start..end], Key::End) {
+        if keyed::is_key(word, Key::End) {
             return line.next;
         }
-        at = line.next.at;
-        number = line.next.line;
+        at = line.next;
     }
 }
 
@@ -56,90 +41,60 @@ fn recovered(text: &[u8], c: Cursor) -> Cursor
 fn further(a: Cursor, b: Cursor) -> Cursor
     ensures { (n : ℕ) → a.at ≤ n → b.at ≤ n → (b.at ≤ result.at) × (result.at ≤ n) }
 {
-    if a.at < b.at {
-        return b;
-    }
-    a
+    if a.at < b.at { b } else { a }
 }
 
-// A case that could not be read.
-fn trouble(text: &[u8], name: Span, fault: Fault, after: Cursor) -> Trouble
+// A case that could not be read, since something is wrong with the line that follows `from`.
+fn trouble(text: &[u8], name: Span, what: What, from: Cursor, after: Cursor) -> Trouble
     requires { after.at ≤ length text.now }
     ensures { Told name after (length text.now) result }
 {
-    let from = fault.from;
-    let what = fault.what;
-    let line = scan::next_line(text, from);
-    let next = further(recovered(text, from), after);
     Trouble {
-        name: name,
-        line: line.number,
-        what: what,
-        next: next,
+        name,
+        line: scan::next_line(text, from).number,
+        what,
+        next: further(recovered(text, from), after),
     }
 }
 
-// What a case's lines say: the case, or what is wrong with it.
-fn told(text: &[u8], name: Span, after: Cursor, body: Body) -> Read
+// What a case's lines after its first say: the case, or what is wrong with it.
+fn case_of(text: &[u8], name: Span, after: Cursor, tables: &mut Tables) -> Result<Case, Trouble>
     requires { after.at ≤ length text.now }
-    ensures { (at a b c d e f g : ℕ) → Named at (length text.now) name after → Whole (length text.now) a b c d e f g body → Reads at (length text.now) a b c d e f g result }
+    ensures told { (at : ℕ) → Named at (length text.now) name after → MatchResult result (Good at (length text.now) tables.old) (λ t. Onward at (length text.now) t.name t.next) }
+    ensures lent { SameRoom tables.old tables.new }
 {
-    let step = body.step;
-    match step {
-        Step::Bad(fault) => Read::Bad(trouble(text, name, fault, after)),
-        Step::Next(last) => {
-            let options = body.options;
-            let counts = body.counts;
-            let room = body.room;
-            let claimed = body.claim;
-            Read::Case(Case {
-                name: name,
-                options: options,
-                counts: counts,
-                room: room,
-                claim: claimed,
-                next: further(last, after),
-            })
-        }
+    let mut at = after;
+    match body::body_of(text, &mut at, tables) {
+        Ok(body) => Ok(Case {
+            name,
+            options: body.options,
+            counts: body.counts,
+            room: body.room,
+            claim: body.claim,
+            next: further(at, after),
+        }),
+        Err(what) => Err(trouble(text, name, what, at, after)),
     }
 }
 
-// The next case, its tables in the lent words; or what is wrong with it; or the end of the text.
-pub fn read(
-    text: &[u8],
-    c: Cursor,
-    classes: &mut [u32],
-    registers: &mut [u32],
-    fragments: &mut [u32],
-    intervals: &mut [u32],
-    mentions: &mut [u32],
-    safepoints: &mut [u32],
-    claim: &mut [u32],
-) -> Read
-    ensures { Reads c.at (length text.now) (length classes.old) (length registers.old) (length fragments.old) (length intervals.old) (length mentions.old) (length safepoints.old) (length claim.old) result }
+// The next case, its tables in the lent words; or what is wrong with it; or nothing at the end of the text.
+pub fn read(text: &[u8], c: Cursor, tables: &mut Tables) -> Option<Result<Case, Trouble>>
+    ensures reads { Reads c.at (length text.now) tables.old result }
+    ensures lent { SameRoom tables.old tables.new }
 {
     let line = scan::next_line(text, c);
-    let from = line.text.from;
-    let to = line.text.to;
-    let past = line.next;
+    let Span { from, to } = line.text;
     if from == to {
-        return Read::End;
+        return None;
     }
-    match lines::title_of(text, c) {
-        Title::Bad(what) => Read::Bad(Trouble {
-            name: Span {
-                from: from,
-                to: from,
-            },
+    let mut at = c;
+    match lines::title_of(text, &mut at) {
+        Ok(name) => Some(case_of(text, name, at, tables)),
+        Err(what) => Some(Err(Trouble {
+            name: Span { from, to: from },
             line: line.number,
-            what: what,
-            next: past,
-        }),
-        Title::Name { name, next } => {
-            let body = body::body_of(
-                text, next, classes, registers, fragments, intervals, mentions, safepoints, claim,
-            );
-            told(text, name, next, body)
-        }
+            what,
+            next: line.next,
+        })),
     }
 }

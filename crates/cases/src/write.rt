@@ -8,18 +8,16 @@ const WORD_DIGITS: usize = 8;
 pub fn put(out: &mut [u8], at: usize, bytes: &[u8]) -> usize
     ensures { Wrote (length out.old) at result }
 {
-    if out.len() < at {
-        return at;
+    match at.checked_add(bytes.len()) {
+        Some(end) if end <= out.len() => {
+            out[at..end].copy_from_slice(bytes);
+            end
+        }
+        _ => at,
     }
-    if out.len() - at < bytes.len() {
-        return at;
-    }
-    let end = at + bytes.len();
-    out[at..end].copy_from_slice(bytes);
-    end
 }
 
-// A number in decimal.
+// A number in decimal. A `write!` may come in pieces, and then a part of it could be left out.
 pub fn put_decimal(out: &mut [u8], at: usize, n: u32) -> usize
     ensures { Wrote (length out.old) at result }
 {

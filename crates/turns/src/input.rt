@@ -1,31 +1,38 @@
 // The input, read whole into lent bytes.
-ghost use Rattle.std.specs.Prelude.{◌≤◌, length};
-ghost use Rattle.turns.specs.Turns.{Holds};
+ghost use Rattle.std.specs.Prelude.{◌≤◌, length, IfOk};
 
 use std::io::Read;
 
-// How many bytes came; or there is more than the lent bytes but one can hold; or a read failed.
-#[derive(Clone, Copy)]
-pub(crate) enum Input {
-    Whole(usize),
+// Why the input could not be had.
+#[derive(Clone, Copy, Debug, PartialEq, Eq)]
+pub(crate) enum InputError {
+    // There is more than the lent bytes but one can hold.
     TooLong,
+    // A read failed.
     Failed,
 }
 
-// The last of the lent bytes is never used: once all are full, there may be more to come.
-pub(crate) fn fill<R: Read>(from: &mut R, text: &mut [u8]) -> Input
-    ensures { Holds (length text.old) result }
+impl InputError {
+    // The line that tells it.
+    pub(crate) fn line(self) -> &'static [u8] {
+        match self {
+            InputError::TooLong => b"the input is longer than 4194304 bytes\n",
+            InputError::Failed => b"the input could not be read\n",
+        }
+    }
+}
+
+// How many bytes came. The last of the lent bytes is never used: once all are full, there may be more to come.
+pub(crate) fn fill<R: Read>(from: &mut R, text: &mut [u8]) -> Result<usize, InputError>
+    ensures { IfOk result (λ n. n ≤ length text.old) }
 {
     let mut n = 0;
     while n < text.len() {
-        let more = match from.read(&mut text[n..]) {
-            Ok(more) => more,
-            Err(_) => return Input::Failed,
-        };
+        let more = from.read(&mut text[n..]).map_err(|_| InputError::Failed)?;
         if more == 0 {
-            return Input::Whole(n);
+            return Ok(n);
         }
         n += more;
     }
-    Input::TooLong
+    Err(InputError::TooLong)
 }

@@ -2,5 +2,5 @@
 use Rattle.std.proofs.Common.{length, ◌-◌}
 use Rattle.cases.proofs.reader.recovered.Given as goal
 
-abbrev pub decreases-loop-line : goal.decreases-loop-line
-decreases-loop-line l = length l.text - l.at
+abbrev pub decreases-loop-at : goal.decreases-loop-at
+decreases-loop-at l = length l.text - l.at.at

@@ -1,6 +1,0 @@
--- It goes through the words once.
-use Rattle.std.proofs.Common.{length, ◌-◌}
-use Rattle.answers.proofs.answer.put_words.Given as goal
-
-abbrev pub decreases-loop-i : goal.decreases-loop-i
-decreases-loop-i l = length l.words - l.i

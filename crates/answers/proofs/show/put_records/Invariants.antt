@@ -1,9 +1,0 @@
--- It goes through the words once, two at a time.
-use Rattle.std.proofs.Common.{length, ◌-◌, ◌≤◌}
-use Rattle.answers.proofs.show.put_records.Given as goal
-
-abbrev pub invariant-loop-i : goal.invariant-loop-i
-invariant-loop-i l = l.i ≤ length l.words
-
-abbrev pub decreases-loop-i : goal.decreases-loop-i
-decreases-loop-i l = length l.words - l.i

@@ -1,2 +1,0 @@
-pub mod BoundLaws
-pub mod ReadLaws

@@ -1,9 +1,0 @@
--- The index moves from one end of the part to the other.
-use Rattle.std.proofs.Common.{◌-◌, ◌≤◌}
-use Rattle.cases.proofs.scan.seek.Given as goal
-
-abbrev pub invariant-loop-i : goal.invariant-loop-i
-invariant-loop-i l = (l.at ≤ l.i) × (l.i ≤ l.to)
-
-abbrev pub decreases-loop-i : goal.decreases-loop-i
-decreases-loop-i l = l.to - l.i

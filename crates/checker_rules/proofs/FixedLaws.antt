@@ -6,6 +6,7 @@ use mathlib.Core.Path.{◌≡◌, sym, ◌∙◌, ap}
 use mathlib.Core.Bool.{Bool, true, false}
 use native.Mathlib.Omega.{arith}
 use native.Mathlib.Decide.{dec_lt}
+use lib.Dec.{leb}
 use lib.ListN.{length, get_or}
 use lib.Pow.{shr_mod}
 use Rattle.words.specs.declared.Fragment.{Fragment}
@@ -17,9 +18,7 @@ use Rattle.checker_rules.specs.Says.{Says}
 use Rattle.checker_rules.specs.Entries.{Shown}
 use Rattle.checker_rules.specs.Lanes.{Registers}
 use Rattle.checker_rules.specs.Fixed.{first_point, last_point, fixed_from, fixed_to, Run, Runs, Meets, Clear}
-use Rattle.checker_rules.specs.Decides.{Decides5}
-use Rattle.checker_rules.proofs.SaysLaws.{says_true, says_false}
-use Rattle.checker_rules.proofs.BridgeLaws.{decides_5}
+use Rattle.checker_rules.proofs.SaysLaws.{says_true, says_false, says_le}
 
 -- a fragment's first point is the upper half of its word
 upper_half : (w : ℕ) → w < 2 ^ 32 → (fragment_in w).first ≡ w / 2 ^ 16
@@ -52,22 +51,22 @@ module _ (fs : List ℕ) (lo hi first last x j : ℕ) (r : Run fs lo hi) (ex : x
     reach = ap (λ (f : Fragment). f.last) ef
 
     -- the last that does ends before the record
-    pub meets_not : f.last < first → Says false (Meets fs lo hi first last)
-    meets_not h = says_false (λ m. go m (dec_lt m.by i))
+    meets_not : f.last < first → Meets fs lo hi first last → ⊥
+    meets_not h m = go (dec_lt m.by i)
       where
-        go : (m : Meets fs lo hi first last) → Dec (m.by < i) → ⊥
-        go m (yes a) =
+        go : Dec (m.by < i) → ⊥
+        go (yes a) =
             let b : last_point fs m.by < first_point fs i = r.apart m.by i m.from a (omega (arith, l.to)) in
             let c : first_point fs i ≤ last_point fs i = r.whole i (omega arith) (omega (arith, l.to)) in
             omega (arith, m.ends, m.after, reach)
-        go m (no a) =
+        go (no a) =
             let b : m.by ≡ i = omega (arith, before m) in
             let c : m.point ≤ last_point fs i = rw b at m.ends in
             omega (arith, m.after, reach)
 
     -- or it does not
-    pub meets_does : first ≤ f.last → first ≤ last → Says true (Meets fs lo hi first last)
-    meets_does h o = says_true (go (dec_lt first (first_point fs i)))
+    meets_does : first ≤ f.last → first ≤ last → Meets fs lo hi first last
+    meets_does h o = go (dec_lt first (first_point fs i))
       where
         begins : first_point fs i ≤ last
         begins = let a : get_or fs i 0 < x = l.below i (omega arith) (omega arith) in omega arith
@@ -80,6 +79,9 @@ module _ (fs : List ℕ) (lo hi first last x j : ℕ) (r : Run fs lo hi) (ex : x
             record { by = i; from = omega arith; to = omega (arith, l.to); point = first_point fs i; after = omega arith; before = begins; starts = omega arith; ends = whole }
         go (no a) =
             record { by = i; from = omega arith; to = omega (arith, l.to); point = first; after = omega arith; before = o; starts = omega arith; ends = omega (arith, reach) }
+
+    pub meets_last : first ≤ last → Says (leb first f.last) (Meets fs lo hi first last)
+    meets_last o = says_le first f.last (λ h. meets_does h o) meets_not
 
 -- one record
 module _ (ws rs fs : List ℕ) (k : ℕ) (r : Record) (s : Shown ws k r) where
@@ -109,10 +111,3 @@ module _ (ws : List ℕ) (n : ℕ) (rs fs : List ℕ) (k : ℕ) (r : Record) (s 
 
   pub ordered_of : r.first ≤ r.last
   ordered_of = rw (s.first, s.last) (g.ordered k h)
-
--- all records are clear, or one is not
-pub rule5_breaks : (ws : List ℕ) (n : ℕ) (rs fs : List ℕ) → (((k : ℕ) → k < n → Clear ws rs fs k) → ⊥) → Decides5 ws n rs fs false
-rule5_breaks ws n rs fs f = decides_5 ws n rs fs false (says_false f)
-
-pub rule5_holds : (ws : List ℕ) (n : ℕ) (rs fs : List ℕ) → ((k : ℕ) → k < n → Clear ws rs fs k) → Decides5 ws n rs fs true
-rule5_holds ws n rs fs f = decides_5 ws n rs fs true (says_true f)

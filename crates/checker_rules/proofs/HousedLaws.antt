@@ -4,7 +4,8 @@ use Prim.Native.Nat.{ℕ, ◌+◌, ◌*◌, ◌/◌, ◌<◌, ◌≤◌}
 use mathlib.Core.List.{List}
 use mathlib.Core.Path.{◌≡◌, refl, sym, ◌∙◌, ap}
 use mathlib.Core.Bool.{Bool, true, false, not, ◌||◌}
-use mathlib.Core.Logic.{inl, inr}
+use mathlib.Core.Logic.{◌⊎◌, inl, inr}
+use lib.Dec.{leb}
 use borrow.Author.Tests.{not-true, not-false}
 use native.Mathlib.Omega.{arith}
 use native.Mathlib.Decide.{dec_lt}
@@ -20,7 +21,7 @@ use Rattle.checker_rules.specs.Entries.{kind_of, interval_of, first_of, last_of,
 use Rattle.checker_rules.specs.Tiles.{Tiling, Once, Seated}
 use Rattle.checker_rules.specs.Housed.{instruction_in, Point, Pointed, Lowest, Highest, Held, Whole, FitsIn, Row, Rows, Fits, Housed, Housing}
 use Rattle.checker_rules.specs.Decides.{Decides2}
-use Rattle.checker_rules.proofs.SaysLaws.{clashes, says_true, says_false}
+use Rattle.checker_rules.proofs.SaysLaws.{clashes, says_true, says_false, says_same, says_le}
 use Rattle.checker_rules.proofs.BridgeLaws.{decides_2}
 
 -- a test that fails in both parts
@@ -94,11 +95,12 @@ module _ (w : ℕ) (m : Mention) (em : m ≡ mention_in w) where
 
 -- one mention and one record
 module _ (kind first last w a b : ℕ) (lo : Lowest w a) (hi : Highest w b) where
-  pub whole_after : last < a → Says true (Whole kind first last w)
-  whole_after h = says_true record { held = λ p o u v. absurd (let z : ⊥ = omega (arith, lo.least p o) in z) }
-
-  pub whole_before : b < first → Says true (Whole kind first last w)
-  whole_before h = says_true record { held = λ p o u v. absurd (let z : ⊥ = omega (arith, hi.most p o) in z) }
+  pub whole_apart : (last < a) ⊎ ((a ≤ last) × (b < first)) → Says true (Whole kind first last w)
+  whole_apart h = says_true record { held = λ p o u v. absurd (none h p o u v) }
+    where
+      none : (last < a) ⊎ ((a ≤ last) × (b < first)) → (p : ℕ) → Point w p → first ≤ p → p ≤ last → ⊥
+      none (inl c) p o u v = omega (arith, lo.least p o)
+      none (inr c) p o u v = omega (arith, hi.most p o, c.1)
 
   -- the lowest point or the highest lies in the record
   touch : a ≤ last → first ≤ b → first ≤ last → Whole kind first last w → Held kind first last w
@@ -111,19 +113,19 @@ module _ (kind first last w a b : ℕ) (lo : Lowest w a) (hi : Highest w b) wher
       go (yes c) = h.held b hi.is v (omega (arith, near))
       go (no c) = h.held a lo.is (omega arith) u
 
-  module _ (o : first ≤ last) (u : a ≤ last) (v : first ≤ b) where
-    pub whole_slot : (kind ≡ 1 → ⊥) → Says false (Whole kind first last w)
-    whole_slot n = says_false (λ h. n (touch u v o h).kind)
+  module _ (o : first ≤ last) (t : (a ≤ last) × (first ≤ b)) where
+    pub whole_not : (r : Bool) → r ≡ false → ((kind ≡ 1) × (a < first)) ⊎ (kind ≡ 1 → ⊥) → Says r (Whole kind first last w)
+    whole_not r e f = rw e (says_false (λ h. no f (touch t.0 t.1 o h)))
+      where
+        no : ((kind ≡ 1) × (a < first)) ⊎ (kind ≡ 1 → ⊥) → Held kind first last w → ⊥
+        no (inl c) h = omega (arith, h.from a lo.is, c.1)
+        no (inr n) h = n h.kind
 
-    pub whole_starts : a < first → Says false (Whole kind first last w)
-    whole_starts c = says_false (λ h. omega (arith, (touch u v o h).from a lo.is))
-
-    pub whole_ends : last < b → Says false (Whole kind first last w)
-    whole_ends c = says_false (λ h. omega (arith, (touch u v o h).to b hi.is))
-
-  pub whole_all : kind ≡ 1 → first ≤ a → b ≤ last → Says true (Whole kind first last w)
-  whole_all k c d =
-      says_true record { held = λ _ _ _ _. record { kind = k; from = λ p o. omega (arith, lo.least p o); to = λ p o. omega (arith, hi.most p o) } }
+    pub whole_last : (kind ≡ 1) × (first ≤ a) → Says (leb b last) (Whole kind first last w)
+    whole_last k =
+        says_le b last
+        (λ d. record { held = λ _ _ _ _. record { kind = k.0; from = λ p o. omega (arith, lo.least p o, k.1); to = λ p o. omega (arith, hi.most p o) } })
+        (λ d h. omega (arith, (touch t.0 t.1 o h).to b hi.is))
 
 -- the mentions of one interval
 pub record FitsTo (ms : List ℕ) (lo hi kind first last m : ℕ) : Type 0 where
@@ -230,9 +232,5 @@ module _ (ws : List ℕ) (n : ℕ) (is ms : List ℕ) (t : Rows is ms) (r : Tili
           ∙ sym (once.only k (record { real = h; names = refl; from = c; to = d })) in
           rw e at x.held
 
-  -- all records fit, or one does not
-  pub rule2_breaks : (((k : ℕ) → k < n → Fits ws is ms k) → ⊥) → Decides2 ws n is ms false
-  rule2_breaks f = decides_2 ws n is ms false (says_false (λ u. f (fits_all u)))
-
-  pub rule2_holds : ((k : ℕ) → k < n → Fits ws is ms k) → Decides2 ws n is ms true
-  rule2_holds f = decides_2 ws n is ms true (says_true (housed_all f))
+  pub rule2_of : (b : Bool) → Says b ((k : ℕ) → k < n → Fits ws is ms k) → Decides2 ws n is ms b
+  rule2_of b d = decides_2 ws n is ms b (says_same housed_all fits_all d)

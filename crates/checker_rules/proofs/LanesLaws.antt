@@ -11,8 +11,8 @@ use native.Mathlib.Decide.{ℕ_discrete}
 use lib.ListN.{length, get_or, set, length-set}
 use lib.Seq.{get_or-set_same, get_or-set_other}
 use Rattle.words.specs.declared.Record.{Record}
-use Rattle.checker_rules.specs.declared.Turn.{Turn}
-use Rattle.checker_rules.specs.declared.Turn.TheVariants.{Over, Of}
+use Rattle.std.specs.declared.option.Option.{Option}
+use Rattle.std.specs.declared.option.Option.TheVariants.{None, Some}
 use Rattle.checker_rules.specs.Says.{Says}
 use Rattle.checker_rules.specs.Entries.{kind_of, number_of, first_of, last_of, Shown}
 use Rattle.checker_rules.specs.Order.{rank, Empty, Due, Least}
@@ -34,7 +34,7 @@ enter_moves e r x k l q =
     record { stays = λ n. absurd (n k); moves = λ _ _. rw q; free = λ _ _. l; clash = λ z. clashes (sym z); holds = λ z. clashes (sym z); room = length-set e r.number x }
 
 -- the walk: whose turn it is, and from where on each register is free
-pub record Entering (ws : List ℕ) (n : ℕ) (d e : List ℕ) (turn : Turn) : Type 0 where
+pub record Entering (ws : List ℕ) (n : ℕ) (d e : List ℕ) (turn : Option ℕ) : Type 0 where
   pub t : ℕ
   pub least : Least ws n t turn
   pub frees : Frees ws n e t
@@ -42,7 +42,7 @@ pub record Entering (ws : List ℕ) (n : ℕ) (d e : List ℕ) (turn : Turn) : T
   pub long : length e ≡ length d
 
 -- before the walk
-pub entering_starts : (ws : List ℕ) (n : ℕ) (e : List ℕ) (turn : Turn) → Empty e → 64 ≤ length e → Least ws n (0 * 16384) turn → Entering ws n e e turn
+pub entering_starts : (ws : List ℕ) (n : ℕ) (e : List ℕ) (turn : Option ℕ) → Empty e → 64 ≤ length e → Least ws n (0 * 16384) turn → Entering ws n e e turn
 entering_starts ws n e turn z r l =
     record {
       t = 0;
@@ -59,15 +59,15 @@ entering_starts ws n e turn z r l =
     bare q a = omega (arith, z.all q)
 
 -- after the walk
-pub entering_ends : (ws : List ℕ) (n : ℕ) (d e : List ℕ) (turn : Turn) → Entering ws n d e turn → turn ≡ Over → Says true (Lanes ws n)
+pub entering_ends : (ws : List ℕ) (n : ℕ) (d e : List ℕ) (turn : Option ℕ) → Entering ws n d e turn → turn ≡ None → Says true (Lanes ws n)
 entering_ends ws n d e turn g z =
     says_true record { apart = λ q p j k oj ok. g.frees.alone q p j k oj (all j oj.real) ok (all k ok.real) }
   where
     all : (k : ℕ) → k < n → rank ws k < g.t
     all = all_seen ws n g.t (rw z at g.least)
 
-module _ (ws : List ℕ) (n : ℕ) (d e e' : List ℕ) (k : ℕ) (turn : Turn) (r : Record) (b : Bool) (g : Entering ws n d e turn) (regs : Registers ws n 64) (few : n ≤ 16384)
-    (ek : turn ≡ Of k) (s : Shown ws k r) (en : Entered e e' r b) where
+module _ (ws : List ℕ) (n : ℕ) (d e e' : List ℕ) (k : ℕ) (turn : Option ℕ) (r : Record) (b : Bool) (g : Entering ws n d e turn) (regs : Registers ws n 64) (few : n ≤ 16384)
+    (ek : turn ≡ Some k) (s : Shown ws k r) (en : Entered e e' r b) where
   now : Due ws n g.t k
   now = due ws n g.t k turn g.least ek
 
@@ -89,7 +89,7 @@ module _ (ws : List ℕ) (n : ℕ) (d e e' : List ℕ) (k : ℕ) (turn : Turn) (
       let low : rank ws k < g.t = rw same at m.seen in
       omega (arith, now.from))
 
-  module _ (turn' : Turn) (q : not b ≡ false) (next : Least ws n (rank ws k + 1) turn') where
+  module _ (turn' : Option ℕ) (q : not b ≡ false) (next : Least ws n (rank ws k + 1) turn') where
     ok : b ≡ true
     ok = not-false b q
 

@@ -1,6 +1,7 @@
 -- The laws behind the rules' tests.
 pub mod EntriesLaws
 pub mod SaysLaws
+pub mod AllLaws
 pub mod OrderLaws
 pub mod BridgeLaws
 pub mod TilesLaws

@@ -8,6 +8,7 @@ use mathlib.Core.Logic.{inl, inr}
 use borrow.Author.Tests.{not-true, not-false}
 use native.Mathlib.Omega.{arith}
 use native.Mathlib.Decide.{dec_lt}
+use lib.Dec.{eqb}
 use lib.ListN.{get_or}
 use lib.Pow.{shr_mod}
 use Rattle.words.specs.declared.Interval.{Interval}
@@ -21,9 +22,7 @@ use Rattle.checker_rules.specs.Entries.{interval_of, reference_of, mentions_to, 
 use Rattle.checker_rules.specs.Tiles.{Seated}
 use Rattle.checker_rules.specs.Housed.{instruction_in, Point, Row}
 use Rattle.checker_rules.specs.Safe.{Defined, First, SafeIn, Safe, Points}
-use Rattle.checker_rules.specs.Decides.{Decides7}
-use Rattle.checker_rules.proofs.SaysLaws.{clashes, says_true, says_false}
-use Rattle.checker_rules.proofs.BridgeLaws.{decides_7}
+use Rattle.checker_rules.proofs.SaysLaws.{clashes, says_true, says_false, says_eq}
 
 -- Def s is a point of w: w is at s, and a mod or a def
 is_at : (w s : ℕ) → Point w (2 * s + 1) → (instruction_in w ≡ s) × (at_def (mention_in w) ≡ true)
@@ -61,8 +60,8 @@ module _ (ms : List ℕ) (lo hi s x m : ℕ) (r : Row ms lo hi) (ex : x ≡ s * 
             let q : Point (get_or ms m 0) (2 * s + 1) = rw e at d.point in
             rw eo (is_at (get_or ms m 0) s q)
 
-    pub def_other : (o.instruction ≡ s → ⊥) → Says false (Defined ms lo hi s)
-    def_other ne = says_false (λ d. ne (same d).0)
+    pub def_other : (o.instruction ≡ s → ⊥) → Says (eqb o.instruction s) (Defined ms lo hi s)
+    def_other ne = says_eq o.instruction s (λ e. absurd (ne e)) (λ n d. n (same d).0)
 
     here : o.instruction ≡ s → o.mods || o.defs ≡ true → Defined ms lo hi s
     here e f = record { by = m; from = l.from; to = h; point = inr (omega (arith, e, ap (λ (o : Mention). o.instruction) eo), rw eo at f) }
@@ -75,11 +74,11 @@ module _ (ms : List ℕ) (lo hi s x m : ℕ) (r : Row ms lo hi) (ex : x ≡ s * 
         go false b f = clashes f
 
     -- neither use nor mod: what is left says it
-    pub def_is : (b : Bool) → o.instruction ≡ s → o.mods ≡ false → b ≡ o.defs → Says b (Defined ms lo hi s)
-    def_is b e f eb =
+    pub def_is : o.instruction ≡ s → o.mods ≡ false → Says o.defs (Defined ms lo hi s)
+    def_is e f =
         record {
-          holds = λ t. here e (yes_def o.mods o.defs (sym eb ∙ t));
-          fails = λ t d. clashes (sym t ∙ eb ∙ no_mod o.mods o.defs f (same d).1);
+          holds = λ t. here e (yes_def o.mods o.defs t);
+          fails = λ t d. clashes (sym t ∙ no_mod o.mods o.defs f (same d).1);
         }
       where
         yes_def : (a b : Bool) → b ≡ true → a || b ≡ true
@@ -167,10 +166,3 @@ module _ (ws is ms ss : List ℕ) (k : ℕ) (r : Record) (s : Seated ws is k r) 
                 (rw (z.safepoints, to_s, z.mentions, to_m, s.shown.interval, s.shown.first, s.shown.last)
                 (u.safe (sym s.shown.kind ∙ ek) (sym flag ∙ not-false i.reference ei)));
           }
-
--- all records are safe, or one is not
-pub rule7_breaks : (ws : List ℕ) (n : ℕ) (is ms ss : List ℕ) → (((k : ℕ) → k < n → Safe ws is ms ss k) → ⊥) → Decides7 ws n is ms ss false
-rule7_breaks ws n is ms ss f = decides_7 ws n is ms ss false (says_false f)
-
-pub rule7_holds : (ws : List ℕ) (n : ℕ) (is ms ss : List ℕ) → ((k : ℕ) → k < n → Safe ws is ms ss k) → Decides7 ws n is ms ss true
-rule7_holds ws n is ms ss f = decides_7 ws n is ms ss true (says_true f)

@@ -14,9 +14,7 @@ use Rattle.checker_rules.specs.Says.{Says}
 use Rattle.checker_rules.specs.Entries.{Given}
 use Rattle.checker_rules.specs.Tiles.{Seated}
 use Rattle.checker_rules.specs.Usable.{Usable, Suits, Classes}
-use Rattle.checker_rules.specs.Decides.{Decides3}
 use Rattle.checker_rules.proofs.SaysLaws.{says_true, says_false}
-use Rattle.checker_rules.proofs.BridgeLaws.{decides_3}
 
 -- where a class ends is a small number
 pub class_end : (w : ℕ) (c : Class) → c ≡ class_in w → c.first + c.count < 2 ^ 16
@@ -51,10 +49,3 @@ module _ (ws is cs : List ℕ) (k : ℕ) (r : Record) (s : Seated ws is k r) whe
 -- the class of an interval exists
 pub class_there : (ws is cs : List ℕ) (k : ℕ) (r : Record) (i : Interval) → Classes is cs → Seated ws is k r → Given is r.interval i → i.class < length cs
 class_there ws is cs k r i t s g = rw g.class (t.there r.interval s.names)
-
--- all records suit, or one does not
-pub rule3_breaks : (ws : List ℕ) (n : ℕ) (is cs : List ℕ) → (((k : ℕ) → k < n → Suits ws is cs k) → ⊥) → Decides3 ws n is cs false
-rule3_breaks ws n is cs f = decides_3 ws n is cs false (says_false f)
-
-pub rule3_holds : (ws : List ℕ) (n : ℕ) (is cs : List ℕ) → ((k : ℕ) → k < n → Suits ws is cs k) → Decides3 ws n is cs true
-rule3_holds ws n is cs f = decides_3 ws n is cs true (says_true f)

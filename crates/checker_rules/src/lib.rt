@@ -12,17 +12,3 @@ pub mod rule4;
 pub mod rule5;
 pub mod rule6;
 pub mod rule7;
-
-// Whose turn it is in the order: a record, or nobody's any more.
-#[derive(Clone, Copy)]
-pub enum Turn {
-    Over,
-    Of(usize),
-}
-
-// What the slot records come to: rule 6 broken, or the greatest slot plus size.
-#[derive(Clone, Copy)]
-pub enum Put {
-    Broken,
-    Top(u32),
-}

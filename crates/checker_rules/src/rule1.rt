@@ -6,7 +6,7 @@ ghost use Rattle.checker_rules.specs.Says.{Says};
 ghost use Rattle.checker_rules.specs.Order.{Empty, Linked, Below};
 ghost use Rattle.checker_rules.specs.Tiles.{Known, Sits, Seated, Loose, Tiled, Within, Started, Fronted, Joined, Judged};
 
-use crate::{Turn, entries, order};
+use crate::{entries, order};
 use words::Record;
 
 const INTERVAL_WORDS: usize = 4;
@@ -20,13 +20,7 @@ const IN_SLOT: u16 = 2;
 fn known(kind: u16) -> bool
     ensures { Says result (Known kind) }
 {
-    if kind == IN_REGISTER {
-        return true;
-    }
-    if kind == IN_SLOT {
-        return true;
-    }
-    false
+    kind == IN_REGISTER || kind == IN_SLOT
 }
 
 // Record k is well packed, names an interval and stays inside it.
@@ -35,27 +29,12 @@ fn sits(words: &[u32], k: usize, intervals: &[u32]) -> bool
     ensures { Says result (Sits words.now intervals.now k) }
 {
     let r = entries::record_at(words, k);
-    if !known(r.kind) {
-        return false;
-    }
-    if r.spare != 0 {
-        return false;
-    }
-    if r.last < r.first {
-        return false;
-    }
     let v = r.interval as usize;
     if intervals.len() / INTERVAL_WORDS <= v {
         return false;
     }
     let i = entries::interval_at(intervals, v);
-    if r.first < i.start {
-        return false;
-    }
-    if i.end < r.last {
-        return false;
-    }
-    true
+    known(r.kind) && r.spare == 0 && i.start <= r.first && r.first <= r.last && r.last <= i.end
 }
 
 // Each record does.
@@ -63,14 +42,7 @@ fn loose(words: &[u32], count: usize, intervals: &[u32]) -> bool
     requires { 2 * count ≤ length words.now }
     ensures { Says result (Loose words.now count intervals.now) }
 {
-    let mut k = 0;
-    while k < count {
-        if !sits(words, k, intervals) {
-            return false;
-        }
-        k += 1;
-    }
-    true
+    (0..count).all(|k| sits(words, k, intervals))
 }
 
 // The points that the first records have to start at.
@@ -78,11 +50,8 @@ fn starts(intervals: &[u32], expect: &mut [u32])
     requires { interval_count intervals.now ≤ length expect.old }
     ensures { Started intervals.now expect.new }
 {
-    let mut v = 0;
-    while v < intervals.len() / INTERVAL_WORDS {
-        let i = entries::interval_at(intervals, v);
-        expect[v] = i.start as u32;
-        v += 1;
+    for v in 0..intervals.len() / INTERVAL_WORDS {
+        expect[v] = entries::interval_at(intervals, v).start as u32;
     }
 }
 
@@ -112,20 +81,16 @@ fn joined(
     ensures { Joined words.now count intervals.now expect.new result }
 {
     let mut turn = order::from(words, count, head, next, points, 0);
-    loop {
-        let Turn::Of(k) = turn else {
-            return true;
-        };
+    while let Some(k) = turn {
         let r = seated(words, count, intervals, k);
         let v = r.interval as usize;
-        let f = r.first as u32;
-        let x = expect[v];
-        if x != f {
+        if expect[v] != r.first as u32 {
             return false;
         }
         expect[v] = r.last as u32 + 1;
         turn = order::following(words, count, head, next, points, k);
     }
+    true
 }
 
 // Each interval's last record ended where the interval does.
@@ -133,17 +98,10 @@ fn ended(words: &[u32], count: usize, intervals: &[u32], expect: &[u32]) -> bool
     requires { Fronted words.now count intervals.now expect.now }
     ensures { Says result (Tiled words.now count intervals.now) }
 {
-    let mut v = 0;
-    while v < intervals.len() / INTERVAL_WORDS {
+    (0..intervals.len() / INTERVAL_WORDS).all(|v| {
         let i = entries::interval_at(intervals, v);
-        let e = i.end as u32 + 1;
-        let x = expect[v];
-        if x != e {
-            return false;
-        }
-        v += 1;
-    }
-    true
+        expect[v] == i.end as u32 + 1
+    })
 }
 
 // Each interval's points lie each in exactly one of its records.
@@ -163,10 +121,8 @@ fn tiled(
 {
     let mut expect = [0u32; MOST_INTERVALS];
     starts(intervals, &mut expect);
-    if !joined(words, count, intervals, head, next, points, &mut expect) {
-        return false;
-    }
-    ended(words, count, intervals, &expect)
+    joined(words, count, intervals, head, next, points, &mut expect)
+        && ended(words, count, intervals, &expect)
 }
 
 // Rule 1; where it holds, the chains are there for rule 4.

@@ -19,13 +19,7 @@ fn lowest(w: u32) -> u32
 {
     let m = read::mention_in(w);
     let i = m.instruction as u32;
-    if m.uses {
-        return 2 * i;
-    }
-    if m.mods {
-        return 2 * i;
-    }
-    2 * i + 1
+    if m.uses || m.mods { 2 * i } else { 2 * i + 1 }
 }
 
 fn highest(w: u32) -> u32
@@ -34,13 +28,7 @@ fn highest(w: u32) -> u32
 {
     let m = read::mention_in(w);
     let i = m.instruction as u32;
-    if m.mods {
-        return 2 * i + 1;
-    }
-    if m.defs {
-        return 2 * i + 1;
-    }
-    2 * i
+    if m.mods || m.defs { 2 * i + 1 } else { 2 * i }
 }
 
 fn whole(kind: u16, first: u16, last: u16, w: u32) -> bool
@@ -51,22 +39,10 @@ fn whole(kind: u16, first: u16, last: u16, w: u32) -> bool
     let b = highest(w);
     let f = first as u32;
     let l = last as u32;
-    if l < a {
+    if l < a || b < f {
         return true;
     }
-    if b < f {
-        return true;
-    }
-    if kind != IN_REGISTER {
-        return false;
-    }
-    if a < f {
-        return false;
-    }
-    if l < b {
-        return false;
-    }
-    true
+    kind == IN_REGISTER && f <= a && b <= l
 }
 
 fn fits_in(mentions: &[u32], lo: usize, hi: usize, kind: u16, first: u16, last: u16) -> bool
@@ -74,18 +50,15 @@ fn fits_in(mentions: &[u32], lo: usize, hi: usize, kind: u16, first: u16, last: 
     ensures { Says result (FitsIn mentions.now lo hi kind first last) }
 {
     let x = first as u64 / 2 * INSTRUCTION_UNIT;
-    let mut m = seek::lower(mentions, lo, hi, x);
-    while m < hi {
+    let from = seek::lower(mentions, lo, hi, x);
+    for m in from..hi {
         let w = mentions[m];
-        let a = lowest(w);
-        let l = last as u32;
-        if l < a {
+        if (last as u32) < lowest(w) {
             return true;
         }
         if !whole(kind, first, last, w) {
             return false;
         }
-        m += 1;
     }
     true
 }
@@ -113,12 +86,5 @@ pub fn rule2(words: &[u32], count: usize, intervals: &[u32], mentions: &[u32]) -
     requires room { 2 * count ≤ length words.now }
     ensures { Decides2 words.now count intervals.now mentions.now result }
 {
-    let mut k = 0;
-    while k < count {
-        if !fits(words, count, intervals, mentions, k) {
-            return false;
-        }
-        k += 1;
-    }
-    true
+    (0..count).all(|k| fits(words, count, intervals, mentions, k))
 }

@@ -14,16 +14,7 @@ fn usable(w: u32, number: u16) -> bool
     ensures { Says result (Usable w number) }
 {
     let c = read::class_in(w);
-    if number < c.first {
-        return false;
-    }
-    if c.first + c.count <= number {
-        return false;
-    }
-    if number == c.scratch {
-        return false;
-    }
-    true
+    c.first <= number && number < c.first + c.count && number != c.scratch
 }
 
 fn suits(words: &[u32], count: usize, intervals: &[u32], classes: &[u32], k: usize) -> bool
@@ -45,12 +36,5 @@ pub fn rule3(words: &[u32], count: usize, intervals: &[u32], classes: &[u32]) ->
     requires room { 2 * count ≤ length words.now }
     ensures { Decides3 words.now count intervals.now classes.now result }
 {
-    let mut k = 0;
-    while k < count {
-        if !suits(words, count, intervals, classes, k) {
-            return false;
-        }
-        k += 1;
-    }
-    true
+    (0..count).all(|k| suits(words, count, intervals, classes, k))
 }

@@ -6,7 +6,7 @@ ghost use Rattle.checker_rules.specs.Order.{Empty, Linked, Below};
 ghost use Rattle.checker_rules.specs.Lanes.{Lanes, Registers, Entered};
 ghost use Rattle.checker_rules.specs.Decides.{Decides4};
 
-use crate::{Turn, entries, order};
+use crate::{entries, order};
 use words::Record;
 
 const IN_REGISTER: u16 = 1;
@@ -22,8 +22,7 @@ fn enter(free: &mut [u32], r: Record) -> bool
         return true;
     }
     let q = r.number as usize;
-    let f = r.first as u32;
-    if f < free[q] {
+    if (r.first as u32) < free[q] {
         return false;
     }
     free[q] = r.last as u32 + 1;
@@ -46,16 +45,13 @@ fn entered(
     ensures { Says result (Lanes words.now count) }
 {
     let mut turn = order::from(words, count, head, next, points, 0);
-    loop {
-        let Turn::Of(k) = turn else {
-            return true;
-        };
-        let r = entries::record_at(words, k);
-        if !enter(free, r) {
+    while let Some(k) = turn {
+        if !enter(free, entries::record_at(words, k)) {
             return false;
         }
         turn = order::following(words, count, head, next, points, k);
     }
+    true
 }
 
 pub fn rule4(words: &[u32], count: usize, head: &[u16], next: &[u16], points: usize) -> bool

@@ -19,14 +19,7 @@ fn meets(fragments: &[u32], lo: usize, hi: usize, first: u16, last: u16) -> bool
 {
     let x = (last as u64 + 1) * FIRST_UNIT;
     let j = seek::lower(fragments, lo, hi, x);
-    if j <= lo {
-        return false;
-    }
-    let f = read::fragment_in(fragments[j - 1]);
-    if f.last < first {
-        return false;
-    }
-    true
+    lo < j && first <= read::fragment_in(fragments[j - 1]).last
 }
 
 fn clear(words: &[u32], count: usize, registers: &[u32], fragments: &[u32], k: usize) -> bool
@@ -40,16 +33,13 @@ fn clear(words: &[u32], count: usize, registers: &[u32], fragments: &[u32], k: u
     }
     let q = r.number as usize;
     let g = read::range_in(registers[q]);
-    if meets(
+    !meets(
         fragments,
         g.index as usize,
         entries::end_of(g),
         r.first,
         r.last,
-    ) {
-        return false;
-    }
-    true
+    )
 }
 
 pub fn rule5(words: &[u32], count: usize, registers: &[u32], fragments: &[u32]) -> bool
@@ -57,12 +47,5 @@ pub fn rule5(words: &[u32], count: usize, registers: &[u32], fragments: &[u32]) 
     requires room { 2 * count ≤ length words.now }
     ensures { Decides5 words.now count registers.now fragments.now result }
 {
-    let mut k = 0;
-    while k < count {
-        if !clear(words, count, registers, fragments, k) {
-            return false;
-        }
-        k += 1;
-    }
-    true
+    (0..count).all(|k| clear(words, count, registers, fragments, k))
 }

@@ -8,7 +8,7 @@ ghost use Rattle.checker_rules.specs.Tiles.{Loose};
 ghost use Rattle.checker_rules.specs.Slots.{Sized, Placed, Unowned, Owned, PutBy};
 ghost use Rattle.checker_rules.specs.Decides.{Decides6};
 
-use crate::{Put, entries, rule1};
+use crate::{entries, rule1};
 
 const IN_SLOT: u16 = 2;
 
@@ -19,16 +19,7 @@ fn size_of(log: u16) -> u32
     requires { log < 4 }
     ensures { Sized log result }
 {
-    if log == 0 {
-        return 1;
-    }
-    if log == 1 {
-        return 2;
-    }
-    if log == 2 {
-        return 4;
-    }
-    8
+    1 << log
 }
 
 // Nobody has a unit of a..b.
@@ -36,14 +27,7 @@ fn unowned(owner: &[u16], a: usize, b: usize) -> bool
     requires { b ≤ length owner.now }
     ensures { Says result (Unowned owner.now a b) }
 {
-    let mut u = a;
-    while u < b {
-        if owner[u] != 0 {
-            return false;
-        }
-        u += 1;
-    }
-    true
+    (a..b).all(|u| owner[u] == 0)
 }
 
 // The units of a..b get this entry.
@@ -51,19 +35,14 @@ fn own(owner: &mut [u16], a: usize, b: usize, entry: u16)
     requires { (a ≤ b) × (b ≤ length owner.old) }
     ensures { Owned owner.old owner.new a b entry }
 {
-    let mut u = a;
-    while u < b {
-        owner[u] = entry;
-        u += 1;
-    }
+    owner[a..b].fill(entry);
 }
 
 // The table of owners, empty again: the point table of the order serves, once rule 4 is done with it.
 pub fn disown(owner: &mut [u16])
     ensures { Empty owner.new }
 {
-    let all = owner.len();
-    own(owner, 0, all, 0);
+    owner.fill(0);
 }
 
 // One record: a slot of an interval that has none yet takes its units.
@@ -75,7 +54,7 @@ fn settle(
     slots: &mut [u32],
     owner: &mut [u16],
     top: u32,
-) -> Put
+) -> Option<u32>
     requires room { (interval_count intervals.now ≤ length slots.old) × (65544 ≤ length owner.old) × (interval_count intervals.now ≤ 4096) }
     requires place { (k < count) × (2 * count ≤ length words.now) × (Loose words.now count intervals.now) }
     requires placed { Placed words.now k intervals.now slots.old owner.old top }
@@ -83,34 +62,28 @@ fn settle(
 {
     let r = rule1::seated(words, count, intervals, k);
     if r.kind != IN_SLOT {
-        return Put::Top(top);
+        return Some(top);
     }
     let v = r.interval as usize;
     let s = r.number as u32;
     let i = entries::interval_at(intervals, v);
     let z = size_of(i.log_size);
     if s % z != 0 {
-        return Put::Broken;
+        return None;
     }
     let old = slots[v];
     if old != 0 {
-        if old != s + 1 {
-            return Put::Broken;
-        }
-        return Put::Top(top);
+        return if old == s + 1 { Some(top) } else { None };
     }
     let a = s as usize;
     let e = s + z;
     let b = e as usize;
     if !unowned(&owner[..], a, b) {
-        return Put::Broken;
+        return None;
     }
     own(owner, a, b, (v + 1) as u16);
     slots[v] = s + 1;
-    if top < e {
-        return Put::Top(e);
-    }
-    Put::Top(top)
+    Some(top.max(e))
 }
 
 fn settled(
@@ -119,23 +92,17 @@ fn settled(
     intervals: &[u32],
     slots: &mut [u32],
     owner: &mut [u16],
-) -> Put
+) -> Option<u32>
     requires room { (interval_count intervals.now ≤ length slots.old) × (65544 ≤ length owner.old) × (interval_count intervals.now ≤ 4096) }
     requires place { (2 * count ≤ length words.now) × (Loose words.now count intervals.now) }
     requires empty { (Empty slots.old) × (Empty owner.old) }
     ensures { PutBy words.now count count intervals.now slots.new owner.new result }
 {
     let mut top: u32 = 0;
-    let mut k = 0;
-    while k < count {
-        let put = settle(words, count, intervals, k, slots, owner, top);
-        let Put::Top(t) = put else {
-            return Put::Broken;
-        };
-        top = t;
-        k += 1;
+    for k in 0..count {
+        top = settle(words, count, intervals, k, slots, owner, top)?;
     }
-    Put::Top(top)
+    Some(top)
 }
 
 // `owner` comes empty, and is longer than any slot plus size.
@@ -146,12 +113,5 @@ pub fn rule6(words: &[u32], count: usize, intervals: &[u32], owner: &mut [u16], 
     ensures { Decides6 words.now count intervals.now total result }
 {
     let mut slots = [0u32; MOST_INTERVALS];
-    let put = settled(words, count, intervals, &mut slots, owner);
-    let Put::Top(top) = put else {
-        return false;
-    };
-    if top != total {
-        return false;
-    }
-    true
+    settled(words, count, intervals, &mut slots, owner) == Some(total)
 }

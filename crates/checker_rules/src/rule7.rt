@@ -15,13 +15,6 @@ const IN_REGISTER: u16 = 1;
 // An instruction stands above 17 bits of a mention's word.
 const INSTRUCTION_UNIT: u64 = 131072;
 
-// The Use point of an instruction, if it is one: a word may name any.
-fn twice(s: u32) -> u64
-    ensures { result ≡ s * 2 }
-{
-    s as u64 * 2
-}
-
 // Def s is a point of one of these mentions.
 fn defines(mentions: &[u32], lo: usize, hi: usize, s: u32) -> bool
     requires { Row mentions.now lo hi }
@@ -33,13 +26,7 @@ fn defines(mentions: &[u32], lo: usize, hi: usize, s: u32) -> bool
         return false;
     }
     let m = read::mention_in(mentions[j]);
-    if m.instruction as u32 != s {
-        return false;
-    }
-    if m.mods {
-        return true;
-    }
-    m.defs
+    m.instruction as u32 == s && (m.mods || m.defs)
 }
 
 fn safe_in(
@@ -61,18 +48,10 @@ fn safe_in(
         return true;
     }
     let s = safepoints[j];
-    let d = twice(s);
+    // the Use point of its instruction, if it is one: a word may name any
+    let d = s as u64 * 2;
     let l = last as u64;
-    if l < d {
-        return true;
-    }
-    if l < d + 1 {
-        return false;
-    }
-    if !defines(mentions, ml, mh, s) {
-        return false;
-    }
-    true
+    l < d || (d < l && defines(mentions, ml, mh, s))
 }
 
 fn safe_at(
@@ -120,12 +99,5 @@ pub fn rule7(
     requires room { 2 * count ≤ length words.now }
     ensures { Decides7 words.now count intervals.now mentions.now safepoints.now result }
 {
-    let mut k = 0;
-    while k < count {
-        if !safe_at(words, count, intervals, mentions, safepoints, k) {
-            return false;
-        }
-        k += 1;
-    }
-    true
+    (0..count).all(|k| safe_at(words, count, intervals, mentions, safepoints, k))
 }

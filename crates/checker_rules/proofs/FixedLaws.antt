@@ -3,7 +3,7 @@
 use Prim.Native.Nat.{ℕ, ◌+◌, ◌-◌, ◌*◌, ◌/◌, ◌^◌, ◌<◌, ◌≤◌}
 use mathlib.Core.List.{List}
 use mathlib.Core.Path.{◌≡◌, sym, ◌∙◌, ap}
-use mathlib.Core.Bool.{Bool, true, false}
+use mathlib.Core.Bool.{Bool}
 use native.Mathlib.Omega.{arith}
 use native.Mathlib.Decide.{dec_lt}
 use lib.Dec.{leb}
@@ -17,8 +17,8 @@ use Rattle.seek.specs.Seek.{Rising, Lower}
 use Rattle.checker_rules.specs.Says.{Says}
 use Rattle.checker_rules.specs.Entries.{Shown}
 use Rattle.checker_rules.specs.Lanes.{Registers}
-use Rattle.checker_rules.specs.Fixed.{first_point, last_point, fixed_from, fixed_to, Run, Runs, Meets, Clear}
-use Rattle.checker_rules.proofs.SaysLaws.{says_true, says_false, says_le}
+use Rattle.checker_rules.specs.Fixed.{first_point, last_point, fixed_to, Run, Meets}
+use Rattle.checker_rules.proofs.SaysLaws.{says_le}
 
 -- a fragment's first point is the upper half of its word
 upper_half : (w : ℕ) → w < 2 ^ 32 → (fragment_in w).first ≡ w / 2 ^ 16
@@ -41,10 +41,6 @@ module _ (fs : List ℕ) (lo hi first last x j : ℕ) (r : Run fs lo hi) (ex : x
       go : Dec (m.by < j) → m.by < j
       go (yes h) = h
       go (no h) = let a : x ≤ get_or fs m.by 0 = l.above m.by (omega arith) m.to in omega (arith, m.starts, m.before, upper_half _ (r.small m.by))
-
-  -- none starts at last or before
-  pub meets_none : j ≤ lo → Says false (Meets fs lo hi first last)
-  meets_none h = says_false (λ m. omega (arith, before m, m.from))
 
   module _ (i : ℕ) (f : Fragment) (ei : i ≡ j - 1) (g : lo < j) (ef : f ≡ fragment_in (get_or fs i 0)) where
     reach : f.last ≡ last_point fs i
@@ -85,29 +81,11 @@ module _ (fs : List ℕ) (lo hi first last x j : ℕ) (r : Run fs lo hi) (ex : x
 
 -- one record
 module _ (ws rs fs : List ℕ) (k : ℕ) (r : Record) (s : Shown ws k r) where
-  pub clear_slot : (r.kind ≡ 1 → ⊥) → Says true (Clear ws rs fs k)
-  clear_slot n = says_true record { clear = λ e. absurd (n (s.kind ∙ e)) }
-
   module _ (g : Range) (hi : ℕ) (b : Bool) (eg : g ≡ range_in (get_or rs r.number 0)) (eh : hi ≡ g.index + g.count) (m : Says b (Meets fs g.index hi r.first r.last)) where
-    el : g.index ≡ fixed_from rs r.number
-    el = ap (λ (g : Range). g.index) eg
-
     et : hi ≡ fixed_to rs r.number
     et = eh ∙ ap (λ (g : Range). g.index + g.count) eg
-
-    pub clear_meets : r.kind ≡ 1 → b ≡ true → Says false (Clear ws rs fs k)
-    clear_meets e q = says_false (λ c. c.clear (sym s.kind ∙ e) (rw (el, et, s.number, s.first, s.last) at (m.holds q)))
-
-    pub clear_not : r.kind ≡ 1 → b ≡ false → Says true (Clear ws rs fs k)
-    clear_not e q = says_true record { clear = λ _ x. m.fails q (rw (el, et, s.number, s.first, s.last) x) }
 
 module _ (ws : List ℕ) (n : ℕ) (rs fs : List ℕ) (k : ℕ) (r : Record) (s : Shown ws k r) (g : Registers ws n (length rs)) (h : k < n) where
   -- a register record's register exists
   pub place_of : r.kind ≡ 1 → r.number < length rs
   place_of e = rw s.number (g.below k h (sym s.kind ∙ e))
-
-  pub run_of : (x : Range) (hi : ℕ) → Runs rs fs → r.kind ≡ 1 → x ≡ range_in (get_or rs r.number 0) → hi ≡ x.index + x.count → Run fs x.index hi
-  run_of x hi u e ex eh = rw (eh, ex) (u.run r.number (place_of e))
-
-  pub ordered_of : r.first ≤ r.last
-  ordered_of = rw (s.first, s.last) (g.ordered k h)

@@ -1,6 +1,6 @@
 -- Rule 4: what the walk by first points says of each register.
 -- Assumes nothing.
-use Prim.Native.Nat.{ℕ, ◌+◌, ◌*◌, ◌<◌, ◌≤◌}
+use Prim.Native.Nat.{ℕ, ◌+◌, ◌<◌, ◌≤◌}
 use mathlib.Core.List.{List}
 use mathlib.Core.Path.{◌≡◌, refl, sym, ◌∙◌, ap}
 use mathlib.Core.Bool.{Bool, true, false, not}
@@ -8,30 +8,17 @@ use mathlib.Core.Logic.{◌⊎◌, inl, inr}
 use borrow.Author.Tests.{not-true, not-false}
 use native.Mathlib.Omega.{arith}
 use native.Mathlib.Decide.{ℕ_discrete}
-use lib.ListN.{length, get_or, set, length-set}
+use lib.ListN.{length, get_or, set}
 use lib.Seq.{get_or-set_same, get_or-set_other}
 use Rattle.words.specs.declared.Record.{Record}
 use Rattle.std.specs.declared.option.Option.{Option}
 use Rattle.std.specs.declared.option.Option.TheVariants.{None, Some}
 use Rattle.checker_rules.specs.Says.{Says}
 use Rattle.checker_rules.specs.Entries.{kind_of, number_of, first_of, last_of, Shown}
-use Rattle.checker_rules.specs.Order.{rank, Empty, Due, Least}
+use Rattle.checker_rules.specs.Order.{rank, Due, Least}
 use Rattle.checker_rules.specs.Lanes.{On, Lanes, Registers, Entered, Met, Frees}
-use Rattle.checker_rules.proofs.SaysLaws.{clashes, says_true, says_false}
+use Rattle.checker_rules.proofs.SaysLaws.{says_true, says_false}
 use Rattle.checker_rules.proofs.OrderLaws.{due, seen, all_seen}
-
--- one record: a slot record, a register that is not free, a register that is
-pub enter_slot : (e : List ℕ) (r : Record) → (r.kind ≡ 1 → ⊥) → Entered e e r true
-enter_slot e r n =
-    record { stays = λ _. refl; moves = λ _ k. absurd (n k); free = λ _ k. absurd (n k); clash = λ z. clashes (sym z); holds = λ z. clashes (sym z); room = refl }
-
-pub enter_clash : (e : List ℕ) (r : Record) → r.kind ≡ 1 → r.first < get_or e r.number 0 → Entered e e r false
-enter_clash e r k l =
-    record { stays = λ n. absurd (n k); moves = λ z. clashes z; free = λ z. clashes z; clash = λ _. l; holds = λ _. k; room = refl }
-
-pub enter_moves : (e : List ℕ) (r : Record) (x : ℕ) → r.kind ≡ 1 → get_or e r.number 0 ≤ r.first → x ≡ r.last + 1 → Entered e (set e r.number x) r true
-enter_moves e r x k l q =
-    record { stays = λ n. absurd (n k); moves = λ _ _. rw q; free = λ _ _. l; clash = λ z. clashes (sym z); holds = λ z. clashes (sym z); room = length-set e r.number x }
 
 -- the walk: whose turn it is, and from where on each register is free
 pub record Entering (ws : List ℕ) (n : ℕ) (d e : List ℕ) (turn : Option ℕ) : Type 0 where
@@ -40,23 +27,6 @@ pub record Entering (ws : List ℕ) (n : ℕ) (d e : List ℕ) (turn : Option �
   pub frees : Frees ws n e t
   pub room : 64 ≤ length e
   pub long : length e ≡ length d
-
--- before the walk
-pub entering_starts : (ws : List ℕ) (n : ℕ) (e : List ℕ) (turn : Option ℕ) → Empty e → 64 ≤ length e → Least ws n (0 * 16384) turn → Entering ws n e e turn
-entering_starts ws n e turn z r l =
-    record {
-      t = 0;
-      least = l;
-      frees = record { past = λ k h a. absurd (none a); met = λ q a. absurd (bare q a); alone = λ q p j k o a. absurd (none a) };
-      room = r;
-      long = refl;
-    }
-  where
-    none : {i : ℕ} → i < 0 → ⊥
-    none a = omega arith
-
-    bare : (q : ℕ) → 0 < get_or e q 0 → ⊥
-    bare q a = omega (arith, z.all q)
 
 -- after the walk
 pub entering_ends : (ws : List ℕ) (n : ℕ) (d e : List ℕ) (turn : Option ℕ) → Entering ws n d e turn → turn ≡ None → Says true (Lanes ws n)
@@ -182,7 +152,3 @@ module _ (ws : List ℕ) (n : ℕ) (d e e' : List ℕ) (k : ℕ) (turn : Option 
           room = omega (arith, g.room, en.room);
           long = en.room ∙ g.long;
         }
-
--- a register record has one of the registers
-pub enters : (ws : List ℕ) (n k : ℕ) (r : Record) → Registers ws n 64 → k < n → Shown ws k r → r.kind ≡ 1 → r.number < 64
-enters ws n k r g h s e = rw s.number (g.below k h (sym s.kind ∙ e))

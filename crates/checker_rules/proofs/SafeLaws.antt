@@ -22,7 +22,7 @@ use Rattle.checker_rules.specs.Entries.{interval_of, reference_of, mentions_to, 
 use Rattle.checker_rules.specs.Tiles.{Seated}
 use Rattle.checker_rules.specs.Housed.{instruction_in, Point, Row}
 use Rattle.checker_rules.specs.Safe.{Defined, First, SafeIn, Safe, Points}
-use Rattle.checker_rules.proofs.SaysLaws.{clashes, says_true, says_false, says_eq}
+use Rattle.checker_rules.proofs.SaysLaws.{clashes, says_true, says_eq}
 
 -- Def s is a point of w: w is at s, and a mod or a def
 is_at : (w s : ℕ) → Point w (2 * s + 1) → (instruction_in w ≡ s) × (at_def (mention_in w) ≡ true)
@@ -37,9 +37,6 @@ module _ (ms : List ℕ) (lo hi s x m : ℕ) (r : Row ms lo hi) (ex : x ≡ s * 
       go : Dec (d.by < m) → m ≤ d.by
       go (yes a) = let b : get_or ms d.by 0 < x = l.below d.by d.from a in omega (arith, (is_at (get_or ms d.by 0) s d.point).0)
       go (no a) = omega arith
-
-  pub def_none : hi ≤ m → Says false (Defined ms lo hi s)
-  def_none h = says_false (λ d. omega (arith, at_m d, d.to))
 
   module _ (o : Mention) (h : m < hi) (eo : o ≡ mention_in (get_or ms m 0)) where
     -- it is m, since later ones are at later instructions
@@ -66,13 +63,6 @@ module _ (ms : List ℕ) (lo hi s x m : ℕ) (r : Row ms lo hi) (ex : x ≡ s * 
     here : o.instruction ≡ s → o.mods || o.defs ≡ true → Defined ms lo hi s
     here e f = record { by = m; from = l.from; to = h; point = inr (omega (arith, e, ap (λ (o : Mention). o.instruction) eo), rw eo at f) }
 
-    pub def_mod : o.instruction ≡ s → o.mods ≡ true → Says true (Defined ms lo hi s)
-    def_mod e f = says_true (here e (go o.mods o.defs f))
-      where
-        go : (a b : Bool) → a ≡ true → a || b ≡ true
-        go true b f = refl
-        go false b f = clashes f
-
     -- neither use nor mod: what is left says it
     pub def_is : o.instruction ≡ s → o.mods ≡ false → Says o.defs (Defined ms lo hi s)
     def_is e f =
@@ -97,9 +87,6 @@ module _ (ss : List ℕ) (sl sh : ℕ) (ms : List ℕ) (ml mh first last x j : �
       go (yes a) = let b : get_or ss i 0 < x = l.below i f.from a in omega (arith, f.after)
       go (no a) = omega arith
 
-  pub safe_none : sh ≤ j → Says true (SafeIn ss sl sh ms ml mh first last)
-  safe_none h = says_true record { each = λ i f. absurd (let bot : ⊥ = omega (arith, from_j i f, f.to) in bot) }
-
   module _ (s d : ℕ) (h : j < sh) (es : s ≡ get_or ss j 0) (ed : d ≡ s * 2) where
     starts : first ≤ 2 * get_or ss j 0
     starts = let a : x ≤ get_or ss j 0 = l.above j (omega arith) h in omega arith
@@ -111,9 +98,6 @@ module _ (ss : List ℕ) (sl sh : ℕ) (ms : List ℕ) (ml mh first last x j : �
         go (yes a) = absurd (f.none j l.from a starts (omega (arith, up.up j i l.from a f.to, f.before)))
         go (no a) = omega (arith, from_j i f)
 
-    pub safe_past : last < d → Says true (SafeIn ss sl sh ms ml mh first last)
-    safe_past a = says_true record { each = λ i f. absurd (let q : 2 * get_or ss j 0 ≤ last = rw (only i f) at f.before in let bot : ⊥ = omega arith in bot) }
-
     it : d ≤ last → First ss sl sh first last j
     it a =
         record {
@@ -123,16 +107,6 @@ module _ (ss : List ℕ) (sl sh : ℕ) (ms : List ℕ) (ml mh first last x j : �
           before = omega arith;
           none = λ i u v a b. let z : get_or ss i 0 < x = l.below i u v in omega arith;
         }
-
-    pub safe_ends : d ≤ last → last < d + 1 → Says false (SafeIn ss sl sh ms ml mh first last)
-    safe_ends a b = says_false (λ f. let k = f.each j (it a) in omega (arith, k.inside))
-
-    pub safe_not : (b : Bool) → d ≤ last → Says b (Defined ms ml mh s) → not b ≡ true → Says false (SafeIn ss sl sh ms ml mh first last)
-    safe_not b a y q = says_false (λ f. y.fails (not-true b q) (rw es (f.each j (it a)).defined))
-
-    pub safe_is : (b : Bool) → d + 1 ≤ last → Says b (Defined ms ml mh s) → not b ≡ false → Says true (SafeIn ss sl sh ms ml mh first last)
-    safe_is b a y q =
-        says_true record { each = λ i f. rw (only i f, ← es) record { inside = omega arith; defined = y.holds (not-false b q) } }
 
 -- the safepoints of a record's interval ascend
 pub points_of_lem : (ws is ss : List ℕ) (k : ℕ) (r : Record) (i : Interval) (hi : ℕ) → Seated ws is k r → Given is r.interval i → hi ≡ i.safepoints.index + i.safepoints.count

@@ -10,7 +10,7 @@ use mathlib.Core.Logic.{◌⊎◌, inl, inr}
 use native.Mathlib.Omega.{arith}
 use native.Mathlib.Nat.{le_antisymm}
 use native.Mathlib.Decide.{dec_lt, ℕ_discrete}
-use lib.ListN.{length, get_or, set, get_or-eq_default}
+use lib.ListN.{length, get_or, set}
 use lib.Seq.{get_or-set_same, get_or-set_other}
 use Rattle.words.specs.declared.Interval.{Interval}
 use Rattle.words.specs.declared.Record.{Record}
@@ -18,7 +18,6 @@ use Rattle.std.specs.declared.option.Option.{Option}
 use Rattle.std.specs.declared.option.Option.TheVariants.{None, Some}
 use Rattle.checker_rules.specs.Says.{Says}
 use Rattle.checker_rules.specs.Entries.{kind_of, interval_of, number_of, size_at, Shown, Given}
-use Rattle.checker_rules.specs.Order.{Empty}
 use Rattle.checker_rules.specs.Slots.{Sized, Slot, Extends, Tops, Slots, Takes, Back, Placed, Unowned, Owned, PutBy}
 use Rattle.checker_rules.specs.Decides.{Decides6}
 use Rattle.checker_rules.proofs.SaysLaws.{says_false, says_eq}
@@ -58,19 +57,6 @@ module _ (ws : List ℕ) (n k : ℕ) (is sl ow : List ℕ) (top : ℕ) (r : Reco
   backs : (v : ℕ) → Back ws k v → Back ws (k + 1) v
   backs v b = record { by = b.by; slot = lift b.by b.slot; names = b.names }
 
-  -- no slot record
-  pub put_other : (r.kind ≡ 2 → ⊥) → PutBy ws n (k + 1) is sl ow (Some top)
-  put_other nk =
-      record {
-        given = split (λ j. get_or sl (interval_of ws j) 0 ≡ number_of ws j + 1) p.given (λ e. absurd (nk (s.kind ∙ e)));
-        fits = split (λ j. number_of ws j % size_at is (interval_of ws j) ≡ 0) p.fits (λ e. absurd (nk (s.kind ∙ e)));
-        back = λ v a. backs v (p.back v a);
-        owns = p.owns;
-        owned = p.owned;
-        most = split (λ j. number_of ws j + size_at is (interval_of ws j) ≤ top) p.most (λ e. absurd (nk (s.kind ∙ e)));
-        reached = tops top p.reached;
-      }
-
   module _ (ik : r.kind ≡ 2) (i : Interval) (z : ℕ) (gi : Given is r.interval i) (ez : Sized i.log_size z) where
     size : size_at is (interval_of ws k) ≡ z
     size = rw (← s.interval) (sym (ez.is ∙ gi.size))
@@ -78,38 +64,9 @@ module _ (ws : List ℕ) (n k : ℕ) (is sl ow : List ℕ) (top : ℕ) (r : Reco
     me : Slot ws n k
     me = record { real = h; kind = sym s.kind ∙ ik }
 
-    -- no multiple of the size
-    pub put_misfit : (r.number % z ≡ 0 → ⊥) → PutBy ws n (k + 1) is sl ow None
-    put_misfit ne = λ total u. ne (rw (s.number, ← size) (u.fits k me))
-
     module _ (old : ℕ) (eo : old ≡ get_or sl r.interval 0) where
       eold : old ≡ get_or sl (interval_of ws k) 0
       eold = rw (← s.interval) eo
-
-      -- another slot than before
-      pub put_differs : (old ≡ 0 → ⊥) → (old ≡ r.number + 1 → ⊥) → PutBy ws n (k + 1) is sl ow None
-      put_differs nz ne =
-          λ total u.
-          let b : Back ws k (interval_of ws k) = p.back (interval_of ws k) (omega (arith, eold)) in
-          let q : number_of ws b.by ≡ number_of ws k = u.one b.by k (wide b.by b.slot) me b.names in
-          let g : get_or sl (interval_of ws k) 0 ≡ number_of ws b.by + 1 = rw b.names at (p.given b.by b.slot) in
-          ne (omega (arith, eold, s.number))
-
-      -- the same slot as before
-      pub put_same : (old ≡ 0 → ⊥) → old ≡ r.number + 1 → r.number % z ≡ 0 → PutBy ws n (k + 1) is sl ow (Some top)
-      put_same nz e f =
-          let b : Back ws k (interval_of ws k) = p.back (interval_of ws k) (omega (arith, eold)) in
-          let g : get_or sl (interval_of ws k) 0 ≡ number_of ws b.by + 1 = rw b.names at (p.given b.by b.slot) in
-          let m : number_of ws b.by + size_at is (interval_of ws k) ≤ top = rw b.names at (p.most b.by b.slot) in
-          record {
-            given = split (λ j. get_or sl (interval_of ws j) 0 ≡ number_of ws j + 1) p.given (λ _. omega (arith, eold, s.number));
-            fits = split (λ j. number_of ws j % size_at is (interval_of ws j) ≡ 0) p.fits (λ _. rw (size, ← s.number) f);
-            back = λ v a. backs v (p.back v a);
-            owns = p.owns;
-            owned = p.owned;
-            most = split (λ j. number_of ws j + size_at is (interval_of ws j) ≤ top) p.most (λ _. omega (arith, eold, s.number));
-            reached = tops top p.reached;
-          }
 
       module _ (free : old ≡ 0) (a b : ℕ) (ea : a ≡ r.number) (eb : b ≡ r.number + z) where
         none : get_or sl (interval_of ws k) 0 ≡ 0
@@ -145,9 +102,6 @@ module _ (ws : List ℕ) (n k : ℕ) (is sl ow : List ℕ) (top : ℕ) (r : Reco
 
           bare : Unowned ow a b
           bare = d.holds q
-
-          sl' : List ℕ
-          sl' = set sl (interval_of ws k) x
 
           here : get_or (set sl (interval_of ws k) x) (interval_of ws k) 0 ≡ number_of ws k + 1
           here = get_or-set_same sl (interval_of ws k) x 0 (rw (← s.interval) room) ∙ ex ∙ ap (λ (y : ℕ). y + 1) s.number
@@ -226,47 +180,6 @@ pub record Settling (ws : List ℕ) (n k : ℕ) (is sl ow d g : List ℕ) (top :
   pub upto : k ≤ n
   pub long : length sl ≡ length d
   pub far : length ow ≡ length g
-
-pub settling_starts : (ws : List ℕ) (n : ℕ) (is sl ow : List ℕ) → Empty sl → Empty ow → Settling ws n 0 is sl ow sl ow 0
-settling_starts ws n is sl ow a b =
-    record {
-      placed = record {
-        given = λ j o. absurd (none j o);
-        fits = λ j o. absurd (none j o);
-        back = λ v g. absurd (let bot : ⊥ = omega (arith, a.all v) in bot);
-        owns = λ v u t. absurd (let bot : ⊥ = omega (arith, a.all v, t.pos) in bot);
-        owned = λ v u e. absurd (let bot : ⊥ = omega (arith, b.all u) in bot);
-        most = λ j o. absurd (none j o);
-        reached = inl refl;
-      };
-      upto = omega arith;
-      long = refl;
-      far = refl;
-    }
-  where
-    none : (j : ℕ) → Slot ws 0 j → ⊥
-    none j o = omega (arith, o.real)
-
-pub settling_more : (ws : List ℕ) (n k : ℕ) (is sl ow sl' ow' d g : List ℕ) (top t : ℕ) (r : Option ℕ) → Settling ws n k is sl ow d g top → k < n
-    → PutBy ws n (k + 1) is sl' ow' r → r ≡ Some t → length sl' ≡ length sl → length ow' ≡ length ow → Settling ws n (k + 1) is sl' ow' d g t
-settling_more ws n k is sl ow sl' ow' d g top t r s h p e a b =
-    record { placed = rw e at p; upto = omega arith; long = a ∙ s.long; far = b ∙ s.far }
-
-pub settling_breaks : (ws : List ℕ) (n k : ℕ) (is sl ow : List ℕ) (r : Option ℕ) → PutBy ws n (k + 1) is sl ow r → r ≡ None → PutBy ws n n is sl ow None
-settling_breaks ws n k is sl ow r p e = rw e at p
-
-pub settling_ends : (ws : List ℕ) (n k : ℕ) (is sl ow d g : List ℕ) (top : ℕ) → Settling ws n k is sl ow d g top → n ≤ k → PutBy ws n n is sl ow (Some top)
-settling_ends ws n k is sl ow d g top t h =
-    let q : k ≡ n = omega (arith, t.upto) in
-    rw q at t.placed
-
--- a table all of whose units got 0 is empty
-pub disowned : (ow ow' : List ℕ) (all : ℕ) → all ≡ length ow → Owned ow ow' 0 all 0 → Empty ow'
-disowned ow ow' all e o = record { all = λ u. go u (dec_lt u all) }
-  where
-    go : (u : ℕ) → Dec (u < all) → get_or ow' u 0 ≡ 0
-    go u (yes h) = o.inner u (omega arith) h
-    go u (no h) = get_or-eq_default ow' 0 (omega (arith, o.long))
 
 -- the rule
 module _ (ws : List ℕ) (n : ℕ) (is sl ow : List ℕ) (total : ℕ) where

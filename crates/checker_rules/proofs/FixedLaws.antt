@@ -33,7 +33,10 @@ rising fs lo hi r =
       within = r.within;
     }
 
-module _ (fs : List ℕ) (lo hi first last x j : ℕ) (r : Run fs lo hi) (ex : x ≡ (last + 1) * 65536) (l : Lower fs lo hi x j) where
+module _ (fs : List ℕ) (lo hi first last x j to : ℕ) (r : Run fs lo hi) (ex : x ≡ (last + 1) * 65536) (et : to ≡ hi) (lt : Lower fs lo to x j) where
+  l : Lower fs lo hi x j
+  l = rw et at lt
+
   -- a fragment that meets the points lies before j
   before : (m : Meets fs lo hi first last) → m.by < j
   before m = go (dec_lt m.by j)

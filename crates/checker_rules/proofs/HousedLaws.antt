@@ -67,7 +67,10 @@ pub record FitsTo (ms : List ℕ) (lo hi kind first last m : ℕ) : Type 0 where
   pub upto : m ≤ hi
 
 module _ (ms : List ℕ) (lo hi kind first last : ℕ) where
-  module _ (m w : ℕ) (t : FitsTo ms lo hi kind first last m) (h : m < hi) (e : w ≡ get_or ms m 0) where
+  module _ (m w to : ℕ) (t : FitsTo ms lo hi kind first last m) (et : to ≡ hi) (ht : m < to) (e : w ≡ get_or ms m 0) where
+    h : m < hi
+    h = omega arith
+
     pub fits_past : (a : ℕ) → Row ms lo hi → Lowest w a → last < a → Says true (FitsIn ms lo hi kind first last)
     fits_past a r l c = says_true record { each = λ i x y. go i x y (dec_lt i m) }
       where
@@ -100,16 +103,6 @@ module _ (ws is ms : List ℕ) (k : ℕ) (r : Record) (i : Interval) (hi : ℕ) 
     (eh : hi ≡ i.mentions.index + i.mentions.count) where
   to : hi ≡ mentions_to is r.interval
   to = eh ∙ z.mentioned
-
-  pub row_of : Rows is ms → Row ms i.mentions.index hi
-  row_of t = rw (z.mentions, to) (t.row r.interval s.names)
-
-  pub fits_of : (b : Bool) → Says b (FitsIn ms i.mentions.index hi r.kind r.first r.last) → Says b (Fits ws is ms k)
-  fits_of b d =
-      record {
-        holds = λ q. record { fits = rw (z.mentions, to, s.shown.interval, s.shown.kind, s.shown.first, s.shown.last) at (d.holds q) };
-        fails = λ q f. d.fails q (rw (z.mentions, to, s.shown.interval, s.shown.kind, s.shown.first, s.shown.last) f.fits);
-      }
 
 pub ordered : (ws : List ℕ) (n : ℕ) (is : List ℕ) (k : ℕ) (r : Record) → Tiling ws n is → k < n → Seated ws is k r → r.first ≤ r.last
 ordered ws n is k r u h s = rw (s.shown.first, s.shown.last) (u.loose.each k h).ordered

@@ -3,9 +3,8 @@
 use Prim.Native.Nat.{ℕ, ◌+◌, ◌*◌, ◌/◌, ◌%◌, ◌^◌, ◌<◌, ◌≤◌}
 use mathlib.Core.List.{List}
 use mathlib.Core.Path.{◌≡◌, refl, sym, ◌∙◌, ap}
-use mathlib.Core.Bool.{Bool, true, false, not, ◌||◌}
+use mathlib.Core.Bool.{Bool, true, false, ◌||◌}
 use mathlib.Core.Logic.{inl, inr}
-use borrow.Author.Tests.{not-true, not-false}
 use native.Mathlib.Omega.{arith}
 use native.Mathlib.Decide.{dec_lt}
 use lib.Dec.{eqb}
@@ -18,18 +17,21 @@ use Rattle.words.specs.Packed.{mention_in}
 use Rattle.rules.specs.Uses.{at_def}
 use Rattle.seek.specs.Seek.{Rising, Lower}
 use Rattle.checker_rules.specs.Says.{Says}
-use Rattle.checker_rules.specs.Entries.{interval_of, reference_of, mentions_to, safepoints_to, Given}
+use Rattle.checker_rules.specs.Entries.{interval_of, reference_of, Given}
 use Rattle.checker_rules.specs.Tiles.{Seated}
 use Rattle.checker_rules.specs.Housed.{instruction_in, Point, Row}
-use Rattle.checker_rules.specs.Safe.{Defined, First, SafeIn, Safe, Points}
-use Rattle.checker_rules.proofs.SaysLaws.{clashes, says_true, says_eq}
+use Rattle.checker_rules.specs.Safe.{Defined, First, Points}
+use Rattle.checker_rules.proofs.SaysLaws.{clashes, says_eq}
 
 -- Def s is a point of w: w is at s, and a mod or a def
 is_at : (w s : ℕ) → Point w (2 * s + 1) → (instruction_in w ≡ s) × (at_def (mention_in w) ≡ true)
 is_at w s (inl a) = absurd (let bot : ⊥ = omega (arith, a.0) in bot)
 is_at w s (inr a) = (omega (arith, a.0), a.1)
 
-module _ (ms : List ℕ) (lo hi s x m : ℕ) (r : Row ms lo hi) (ex : x ≡ s * 131072) (l : Lower ms lo hi x m) where
+module _ (ms : List ℕ) (lo hi s x m to : ℕ) (r : Row ms lo hi) (ex : x ≡ s * 131072) (et : to ≡ hi) (lt : Lower ms lo to x m) where
+  l : Lower ms lo hi x m
+  l = rw et at lt
+
   -- the mention that defines at s is at m
   at_m : (d : Defined ms lo hi s) → m ≤ d.by
   at_m d = go (dec_lt d.by m)
@@ -38,7 +40,10 @@ module _ (ms : List ℕ) (lo hi s x m : ℕ) (r : Row ms lo hi) (ex : x ≡ s * 
       go (yes a) = let b : get_or ms d.by 0 < x = l.below d.by d.from a in omega (arith, (is_at (get_or ms d.by 0) s d.point).0)
       go (no a) = omega arith
 
-  module _ (o : Mention) (h : m < hi) (eo : o ≡ mention_in (get_or ms m 0)) where
+  module _ (o : Mention) (ht : m < to) (eo : o ≡ mention_in (get_or ms m 0)) where
+    h : m < hi
+    h = omega arith
+
     -- it is m, since later ones are at later instructions
     same : (d : Defined ms lo hi s) → (o.instruction ≡ s) × (o.mods || o.defs ≡ true)
     same d = go (dec_lt m d.by)
@@ -115,28 +120,6 @@ points_of_lem ws is ss k r i hi s z e p = rw (z.safepoints, e ∙ z.safe) (p.row
 
 -- one record
 module _ (ws is ms ss : List ℕ) (k : ℕ) (r : Record) (s : Seated ws is k r) where
-  pub at_slot : (r.kind ≡ 1 → ⊥) → Says true (Safe ws is ms ss k)
-  at_slot n = says_true record { safe = λ e. absurd (n (s.shown.kind ∙ e)) }
-
   module _ (i : Interval) (z : Given is r.interval i) where
     flag : i.reference ≡ reference_of is (interval_of ws k)
     flag = rw (← s.shown.interval) z.reference
-
-    pub at_plain : not i.reference ≡ true → Says true (Safe ws is ms ss k)
-    at_plain n = says_true record { safe = λ _ e. clashes (sym (not-true i.reference n) ∙ flag ∙ e) }
-
-    module _ (sh mh : ℕ) (es : sh ≡ i.safepoints.index + i.safepoints.count) (em : mh ≡ i.mentions.index + i.mentions.count) where
-      to_s : sh ≡ safepoints_to is r.interval
-      to_s = es ∙ z.safe
-
-      to_m : mh ≡ mentions_to is r.interval
-      to_m = em ∙ z.mentioned
-
-      pub at_safe : (b : Bool) → r.kind ≡ 1 → not i.reference ≡ false → Says b (SafeIn ss i.safepoints.index sh ms i.mentions.index mh r.first r.last) → Says b (Safe ws is ms ss k)
-      at_safe b ek ei y =
-          record {
-            holds = λ q. record { safe = λ _ _. rw (z.safepoints, to_s, z.mentions, to_m, s.shown.interval, s.shown.first, s.shown.last) at (y.holds q) };
-            fails = λ q u. y.fails q
-                (rw (z.safepoints, to_s, z.mentions, to_m, s.shown.interval, s.shown.first, s.shown.last)
-                (u.safe (sym s.shown.kind ∙ ek) (sym flag ∙ not-false i.reference ei)));
-          }

@@ -178,9 +178,9 @@ module _ (ws : List ℕ) (n : ℕ) (is d e : List ℕ) (k : ℕ) (turn : Option 
         record { t = rank ws k + 1; least = next; fronts = more; room = more.room; long = length-set e (interval_of ws k) x ∙ g.long }
 
 -- an interval that stops short misses a point, and where none does each point is held once
-pub ended_is : (ws : List ℕ) (n : ℕ) (is e : List ℕ) (b : Bool) → Fronted ws n is e → Says b ((v : ℕ) → v < interval_count is → get_or e v 0 ≡ end_of is v + 1)
+pub ended_is : (ws : List ℕ) (n : ℕ) (is e : List ℕ) (b : Bool) (m : ℕ) → Fronted ws n is e → m ≡ interval_count is → Says b ((v : ℕ) → v < m → get_or e v 0 ≡ end_of is v + 1)
     → Says b (Tiled ws n is)
-ended_is ws n is e b f d = says_same held full d
+ended_is ws n is e b m f em d = says_same held full (rw em at d)
   where
     held : ((v : ℕ) → v < interval_count is → get_or e v 0 ≡ end_of is v + 1) → Tiled ws n is
     held g =
@@ -209,10 +209,6 @@ ended_is ws n is e b f d = says_same held full d
         go (yes q) = q
         go (no q) = absurd (short t v h q)
 
--- a record that sits names an interval
-pub seated : (ws : List ℕ) (n : ℕ) (is : List ℕ) (k : ℕ) (r : Record) → Loose ws n is → k < n → Shown ws k r → Seated ws is k r
-seated ws n is k r l h s = record { shown = s; names = rw s.interval (l.each k h).names }
-
 -- where all records sit, none starts past the last point
 pub below : (ws : List ℕ) (n : ℕ) (is : List ℕ) (points : ℕ) (b : Bool) → Says b (Loose ws n is) → not b ≡ false → Within is points → Below ws n points
 below ws n is points b s e w =
@@ -221,9 +217,6 @@ below ws n is points b s e w =
       under = λ k h. omega (arith, (l.each k h).ordered, (l.each k h).to, w.under (interval_of ws k) (l.each k h).names);
       most = w.most;
     }
-
-pub loosely : (ws : List ℕ) (n : ℕ) (is : List ℕ) (b : Bool) → Says b (Loose ws n is) → not b ≡ false → Loose ws n is
-loosely ws n is b s e = s.holds (not-false b e)
 
 -- a record that does not sit breaks the rule
 pub rule1_loose : (ws : List ℕ) (n : ℕ) (is head next : List ℕ) (b : Bool) → Says b (Loose ws n is) → not b ≡ true → Judged ws n is head next false

@@ -3,8 +3,8 @@
 // Rules 1 and 4 walk all records in one order, by first point (`order`), each with a small array of what comes next. The others look at one record at a time, in tables that ascend.
 #![tactic(auto)]
 
-mod entries;
-mod order;
+pub mod entries;
+pub mod order;
 pub mod rule1;
 pub mod rule2;
 pub mod rule3;

@@ -1,18 +1,13 @@
 // Rule 6: a virtual register has one slot, a multiple of its size; slot extents of two do not meet; the total is the greatest slot plus size, or 0.
-// `slots` has each interval's slot plus one, 0 where it has none yet; `owner` has for each slot unit the interval that has it plus one, 0 where nobody has. Only this file knows that.
+// `slots` has each interval's slot plus one, 0 where it has none yet; `owner` has for each slot unit the interval that has it plus one, 0 where nobody has. Only this file knows that. An `Option` in each entry would take twice the room, of memory that is fixed.
 ghost use Rattle.std.specs.Prelude.{◌≡◌, ℕ, ◌+◌, ◌*◌, ◌<◌, ◌≤◌, length, get_or};
 ghost use Rattle.words.specs.Packed.{interval_count};
 ghost use Rattle.checker_rules.specs.Says.{Says};
 ghost use Rattle.checker_rules.specs.Order.{Empty};
-ghost use Rattle.checker_rules.specs.Tiles.{Loose};
 ghost use Rattle.checker_rules.specs.Slots.{Sized, Placed, Unowned, Owned, PutBy};
 ghost use Rattle.checker_rules.specs.Decides.{Decides6};
 
-use crate::{entries, rule1};
-
-const IN_SLOT: u16 = 2;
-
-const MOST_INTERVALS: usize = 4096;
+use crate::entries::{IN_SLOT, MOST_INTERVALS, Seats};
 
 // The size that a logarithm below 4 stands for: 1, 2, 4, 8.
 fn size_of(log: u16) -> u32
@@ -45,29 +40,20 @@ pub fn disown(owner: &mut [u16])
     owner.fill(0);
 }
 
-// One record: a slot of an interval that has none yet takes its units.
-fn settle(
-    words: &[u32],
-    count: usize,
-    intervals: &[u32],
-    k: usize,
-    slots: &mut [u32],
-    owner: &mut [u16],
-    top: u32,
-) -> Option<u32>
-    requires room { (interval_count intervals.now ≤ length slots.old) × (65544 ≤ length owner.old) × (interval_count intervals.now ≤ 4096) }
-    requires place { (k < count) × (2 * count ≤ length words.now) × (Loose words.now count intervals.now) }
-    requires placed { Placed words.now k intervals.now slots.old owner.old top }
-    ensures { PutBy words.now count (k + 1) intervals.now slots.new owner.new result }
+// Record k, where those before it reach `top`: a slot of an interval that has none yet takes its units. The greatest slot plus size, or nothing where the record breaks the rule.
+fn settle(seats: Seats, k: usize, slots: &mut [u32], owner: &mut [u16], top: u32) -> Option<u32>
+    requires room { (interval_count seats.intervals.now ≤ length slots.old) × (65544 ≤ length owner.old) × (interval_count seats.intervals.now ≤ 4096) }
+    requires place { k < seats.records.count }
+    requires placed { Placed seats.records.words.now k seats.intervals.now slots.old owner.old top }
+    ensures { PutBy seats.entry.records.words.now seats.entry.records.count (k + 1) seats.entry.intervals.now slots.new owner.new result }
 {
-    let r = rule1::seated(words, count, intervals, k);
+    let r = seats.record(k);
     if r.kind != IN_SLOT {
         return Some(top);
     }
     let v = r.interval as usize;
     let s = r.number as u32;
-    let i = entries::interval_at(intervals, v);
-    let z = size_of(i.log_size);
+    let z = size_of(seats.interval(r).log_size);
     if s % z != 0 {
         return None;
     }
@@ -86,32 +72,25 @@ fn settle(
     Some(top.max(e))
 }
 
-fn settled(
-    words: &[u32],
-    count: usize,
-    intervals: &[u32],
-    slots: &mut [u32],
-    owner: &mut [u16],
-) -> Option<u32>
-    requires room { (interval_count intervals.now ≤ length slots.old) × (65544 ≤ length owner.old) × (interval_count intervals.now ≤ 4096) }
-    requires place { (2 * count ≤ length words.now) × (Loose words.now count intervals.now) }
+// The same of all records.
+fn settled(seats: Seats, slots: &mut [u32], owner: &mut [u16]) -> Option<u32>
+    requires room { (interval_count seats.intervals.now ≤ length slots.old) × (65544 ≤ length owner.old) × (interval_count seats.intervals.now ≤ 4096) }
     requires empty { (Empty slots.old) × (Empty owner.old) }
-    ensures { PutBy words.now count count intervals.now slots.new owner.new result }
+    ensures { PutBy seats.entry.records.words.now seats.entry.records.count seats.entry.records.count seats.entry.intervals.now slots.new owner.new result }
 {
-    let mut top: u32 = 0;
-    for k in 0..count {
-        top = settle(words, count, intervals, k, slots, owner, top)?;
+    let mut top = 0;
+    for k in 0..seats.records.count {
+        top = settle(seats, k, slots, owner, top)?;
     }
     Some(top)
 }
 
 // `owner` comes empty, and is longer than any slot plus size.
-pub fn rule6(words: &[u32], count: usize, intervals: &[u32], owner: &mut [u16], total: u32) -> bool
-    requires room { (65544 ≤ length owner.old) × (interval_count intervals.now ≤ 4096) }
-    requires place { (2 * count ≤ length words.now) × (Loose words.now count intervals.now) }
+pub fn rule6(seats: Seats, owner: &mut [u16], total: u32) -> bool
+    requires room { (65544 ≤ length owner.old) × (interval_count seats.intervals.now ≤ 4096) }
     requires empty { Empty owner.old }
-    ensures { Decides6 words.now count intervals.now total result }
+    ensures { Decides6 seats.entry.records.words.now seats.entry.records.count seats.entry.intervals.now total result }
 {
     let mut slots = [0u32; MOST_INTERVALS];
-    settled(words, count, intervals, &mut slots, owner) == Some(total)
+    settled(seats, &mut slots, owner) == Some(total)
 }

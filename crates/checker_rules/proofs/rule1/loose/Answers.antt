@@ -8,4 +8,4 @@ use borrow.Author.Rules.{rules}
 use Rattle.checker_rules.proofs.rule1.loose.Goals as goal
 
 pub returns : goal.returns
-returns c = says_same (λ f. record { each = f }) (λ l. l.each) (all_below _ _ _ _ (λ k. Sits c.args.words.now c.args.intervals.now k) c.all.ensures.ran refl (λ k b f' e. search rules))
+returns c = says_same (λ f. record { each = f }) (λ l. l.each) (all_below _ _ _ _ (λ k. Sits c.args.records.words.now c.args.intervals.now k) c.all.ensures.ran refl (λ k b f' e. search rules))

@@ -8,4 +8,4 @@ use borrow.Author.Rules.{rules}
 use Rattle.checker_rules.proofs.rule2.rule2.Goals as goal
 
 pub returns : goal.returns
-returns c = rule2_of _ _ _ _ c.requires.tables.0 c.requires.tables.1 _ (all_below _ _ _ _ (λ k. Fits c.args.words.now c.args.intervals.now c.args.mentions.now k) c.all.ensures.ran refl (λ k b f' e. search rules))
+returns c = rule2_of _ _ _ _ c.requires.0 c.requires.1 _ (all_below _ _ _ _ (λ k. Fits c.args.seats.records.words.now c.args.seats.intervals.now c.args.mentions.now k) c.all.ensures.ran refl (λ k b f' e. search rules))

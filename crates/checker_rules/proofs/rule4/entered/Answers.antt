@@ -8,7 +8,7 @@ pub returns-then-not-enter : goal.returns-then-not-enter
 returns-then-not-enter c = search entering_breaks
 
 pub loop-turn-smaller : goal.loop-turn-smaller
-loop-turn-smaller c = left_less _ _ _ _ _ _ c.requires.below (due _ _ _ _ _ c.loop-turn.invariant.least c.in-Some.is).real c.in-Some.is c.following-turn.ensures
+loop-turn-smaller c = left_less _ _ _ _ _ _ c.args.order.below (due _ _ _ _ _ c.loop-turn.invariant.least c.in-Some.is).real c.in-Some.is c.following-turn.ensures
 
 pub loop-turn-preserved : goal.loop-turn-preserved
 loop-turn-preserved c = search entering_more

@@ -3,5 +3,5 @@
 use Rattle.checker_rules.proofs.FixedLaws.{meets_last}
 use Rattle.checker_rules.proofs.rule5.meets.Goals as goal
 
-pub returns-then-lo-j : goal.returns-then-lo-j
-returns-then-lo-j c = search meets_last
+pub returns-then-from-j : goal.returns-then-from-j
+returns-then-from-j c = search meets_last

@@ -8,4 +8,4 @@ use borrow.Author.Rules.{rules}
 use Rattle.checker_rules.proofs.rule5.rule5.Goals as goal
 
 pub returns : goal.returns
-returns c = decides_5 _ _ _ _ _ (all_below _ _ _ _ (λ k. Clear c.args.words.now c.args.registers.now c.args.fragments.now k) c.all.ensures.ran refl (λ k b f' e. search rules))
+returns c = decides_5 _ _ _ _ _ (all_below _ _ _ _ (λ k. Clear c.args.records.words.now c.args.registers.now c.args.fragments.now k) c.all.ensures.ran refl (λ k b f' e. search rules))

@@ -4,4 +4,4 @@ use Rattle.checker_rules.proofs.SlotsLaws.{Settling}
 use Rattle.checker_rules.proofs.rule6.settled.Given as goal
 
 abbrev pub invariant-loop-k : goal.invariant-loop-k
-invariant-loop-k l = Settling l.words l.count l.k l.intervals l.slots l.owner l.initial.slots l.initial.owner l.top
+invariant-loop-k l = Settling l.seats.records.words.now l.seats.records.count l.k l.seats.intervals.now l.slots l.owner l.initial.slots l.initial.owner l.top

@@ -2,36 +2,22 @@
 -- Assumes nothing.
 use Prim.Native.Nat.{ℕ, ◌+◌, ◌-◌, ◌*◌, ◌/◌, ◌^◌, ◌<◌, ◌≤◌}
 use mathlib.Core.List.{List}
-use mathlib.Core.Path.{◌≡◌, sym, ◌∙◌, ap}
-use mathlib.Core.Bool.{Bool}
+use mathlib.Core.Path.{◌≡◌, ap}
 use native.Mathlib.Omega.{arith}
 use native.Mathlib.Decide.{dec_lt}
 use lib.Dec.{leb}
-use lib.ListN.{length, get_or}
+use lib.ListN.{get_or}
 use lib.Pow.{shr_mod}
 use Rattle.words.specs.declared.Fragment.{Fragment}
-use Rattle.words.specs.declared.Range.{Range}
-use Rattle.words.specs.declared.Record.{Record}
-use Rattle.words.specs.Packed.{range_in, fragment_in}
-use Rattle.seek.specs.Seek.{Rising, Lower}
+use Rattle.words.specs.Packed.{fragment_in}
+use Rattle.seek.specs.Seek.{Lower}
 use Rattle.checker_rules.specs.Says.{Says}
-use Rattle.checker_rules.specs.Entries.{Shown}
-use Rattle.checker_rules.specs.Lanes.{Registers}
-use Rattle.checker_rules.specs.Fixed.{first_point, last_point, fixed_to, Run, Meets}
+use Rattle.checker_rules.specs.Fixed.{first_point, last_point, Run, Meets}
 use Rattle.checker_rules.proofs.SaysLaws.{says_le}
 
 -- a fragment's first point is the upper half of its word
 upper_half : (w : ℕ) → w < 2 ^ 32 → (fragment_in w).first ≡ w / 2 ^ 16
 upper_half w h = shr_mod 16 16 h
-
--- fragments ascend as words do
-pub rising : (fs : List ℕ) (lo hi : ℕ) → Run fs lo hi → Rising fs lo hi
-rising fs lo hi r =
-    record {
-      up = λ i j a b c. omega (arith, r.whole i a (omega arith), r.apart i j a b c, upper_half _ (r.small i), upper_half _ (r.small j));
-      order = r.order;
-      within = r.within;
-    }
 
 module _ (fs : List ℕ) (lo hi first last x j to : ℕ) (r : Run fs lo hi) (ex : x ≡ (last + 1) * 65536) (et : to ≡ hi) (lt : Lower fs lo to x j) where
   l : Lower fs lo hi x j
@@ -81,14 +67,3 @@ module _ (fs : List ℕ) (lo hi first last x j to : ℕ) (r : Run fs lo hi) (ex 
 
     pub meets_last : first ≤ last → Says (leb first f.last) (Meets fs lo hi first last)
     meets_last o = says_le first f.last (λ h. meets_does h o) meets_not
-
--- one record
-module _ (ws rs fs : List ℕ) (k : ℕ) (r : Record) (s : Shown ws k r) where
-  module _ (g : Range) (hi : ℕ) (b : Bool) (eg : g ≡ range_in (get_or rs r.number 0)) (eh : hi ≡ g.index + g.count) (m : Says b (Meets fs g.index hi r.first r.last)) where
-    et : hi ≡ fixed_to rs r.number
-    et = eh ∙ ap (λ (g : Range). g.index + g.count) eg
-
-module _ (ws : List ℕ) (n : ℕ) (rs fs : List ℕ) (k : ℕ) (r : Record) (s : Shown ws k r) (g : Registers ws n (length rs)) (h : k < n) where
-  -- a register record's register exists
-  pub place_of : r.kind ≡ 1 → r.number < length rs
-  place_of e = rw s.number (g.below k h (sym s.kind ∙ e))

@@ -10,12 +10,10 @@ use borrow.Author.Tests.{not-false}
 use native.Mathlib.Omega.{arith}
 use native.Mathlib.Decide.{dec_lt}
 use lib.ListN.{get_or}
-use Rattle.words.specs.declared.Interval.{Interval}
-use Rattle.words.specs.declared.Record.{Record}
 use Rattle.words.specs.Packed.{interval_count}
 use Rattle.checker_rules.specs.Says.{Says}
-use Rattle.checker_rules.specs.Entries.{kind_of, interval_of, first_of, last_of, mentions_from, mentions_to, Given}
-use Rattle.checker_rules.specs.Tiles.{Tiling, Once, Seated}
+use Rattle.checker_rules.specs.Entries.{kind_of, interval_of, first_of, last_of, mentions_from, mentions_to}
+use Rattle.checker_rules.specs.Tiles.{Tiling, Once}
 use Rattle.checker_rules.specs.Housed.{instruction_in, Point, Pointed, Lowest, Highest, Held, Whole, FitsIn, Row, Rows, Fits, Housed, Housing}
 use Rattle.checker_rules.specs.Decides.{Decides2}
 use Rattle.checker_rules.proofs.SaysLaws.{says_true, says_false, says_same, says_le}
@@ -97,15 +95,6 @@ module _ (ms : List ℕ) (lo hi kind first last : ℕ) where
         go : (i : ℕ) → lo ≤ i → i < m + 1 → Dec (i < m) → Whole kind first last (get_or ms i 0)
         go i x y (yes z) = t.sofar i x z
         go i x y (no z) = let k : i ≡ m = omega arith in rw (k, ← e) (s.holds (not-false b q))
-
--- one record
-module _ (ws is ms : List ℕ) (k : ℕ) (r : Record) (i : Interval) (hi : ℕ) (s : Seated ws is k r) (z : Given is r.interval i)
-    (eh : hi ≡ i.mentions.index + i.mentions.count) where
-  to : hi ≡ mentions_to is r.interval
-  to = eh ∙ z.mentioned
-
-pub ordered : (ws : List ℕ) (n : ℕ) (is : List ℕ) (k : ℕ) (r : Record) → Tiling ws n is → k < n → Seated ws is k r → r.first ≤ r.last
-ordered ws n is k r u h s = rw (s.shown.first, s.shown.last) (u.loose.each k h).ordered
 
 -- the rule
 module _ (ws : List ℕ) (n : ℕ) (is ms : List ℕ) (t : Rows is ms) (r : Tiling ws n is) where

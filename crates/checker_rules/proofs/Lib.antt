@@ -5,7 +5,6 @@ pub mod AllLaws
 pub mod OrderLaws
 pub mod BridgeLaws
 pub mod TilesLaws
-pub mod UsableLaws
 pub mod LanesLaws
 pub mod FixedLaws
 pub mod HousedLaws

@@ -10,18 +10,14 @@ use native.Mathlib.Decide.{dec_lt}
 use lib.Dec.{eqb}
 use lib.ListN.{get_or}
 use lib.Pow.{shr_mod}
-use Rattle.words.specs.declared.Interval.{Interval}
 use Rattle.words.specs.declared.Mention.{Mention}
-use Rattle.words.specs.declared.Record.{Record}
 use Rattle.words.specs.Packed.{mention_in}
 use Rattle.rules.specs.Uses.{at_def}
 use Rattle.seek.specs.Seek.{Rising, Lower}
 use Rattle.checker_rules.specs.Says.{Says}
-use Rattle.checker_rules.specs.Entries.{interval_of, reference_of, Given}
-use Rattle.checker_rules.specs.Tiles.{Seated}
 use Rattle.checker_rules.specs.Housed.{instruction_in, Point, Row}
-use Rattle.checker_rules.specs.Safe.{Defined, First, Points}
-use Rattle.checker_rules.proofs.SaysLaws.{clashes, says_eq}
+use Rattle.checker_rules.specs.Safe.{Defined, First, SafeIn}
+use Rattle.checker_rules.proofs.SaysLaws.{clashes, says_true, says_eq}
 
 -- Def s is a point of w: w is at s, and a mod or a def
 is_at : (w s : ℕ) → Point w (2 * s + 1) → (instruction_in w ≡ s) × (at_def (mention_in w) ≡ true)
@@ -84,42 +80,31 @@ module _ (ms : List ℕ) (lo hi s x m to : ℕ) (r : Row ms lo hi) (ex : x ≡ s
         no_mod true b f g = clashes (sym f)
         no_mod false b f g = g
 
-module _ (ss : List ℕ) (sl sh : ℕ) (ms : List ℕ) (ml mh first last x j : ℕ) (up : Rising ss sl sh) (ex : x ≡ (first + 1) / 2) (l : Lower ss sl sh x j) where
+-- the first safepoint whose Use is not below the first point is at j
+module _ (ss : List ℕ) (sl sh : ℕ) (ms : List ℕ) (ml mh first last x j to : ℕ) (up : Rising ss sl sh) (ex : x ≡ (first + 1) / 2) (et : to ≡ sh) (lt : Lower ss sl to x j) where
+  found : Lower ss sl sh x j
+  found = rw et at lt
+
   from_j : (i : ℕ) → First ss sl sh first last i → j ≤ i
   from_j i f = go (dec_lt i j)
     where
       go : Dec (i < j) → j ≤ i
-      go (yes a) = let b : get_or ss i 0 < x = l.below i f.from a in omega (arith, f.after)
+      go (yes a) = let b : get_or ss i 0 < x = found.below i f.from a in omega (arith, f.after)
       go (no a) = omega arith
 
-  module _ (s d : ℕ) (h : j < sh) (es : s ≡ get_or ss j 0) (ed : d ≡ s * 2) where
+  module _ (s d : ℕ) (ht : j < to) (es : s ≡ get_or ss j 0) (ed : d ≡ s * 2) where
+    inside : j < sh
+    inside = omega arith
+
     starts : first ≤ 2 * get_or ss j 0
-    starts = let a : x ≤ get_or ss j 0 = l.above j (omega arith) h in omega arith
+    starts = let a : x ≤ get_or ss j 0 = found.above j (omega arith) inside in omega arith
 
     only : (i : ℕ) → First ss sl sh first last i → i ≡ j
     only i f = go (dec_lt j i)
       where
         go : Dec (j < i) → i ≡ j
-        go (yes a) = absurd (f.none j l.from a starts (omega (arith, up.up j i l.from a f.to, f.before)))
+        go (yes a) = absurd (f.none j found.from a starts (omega (arith, up.up j i found.from a f.to, f.before)))
         go (no a) = omega (arith, from_j i f)
 
-    it : d ≤ last → First ss sl sh first last j
-    it a =
-        record {
-          from = l.from;
-          to = h;
-          after = starts;
-          before = omega arith;
-          none = λ i u v a b. let z : get_or ss i 0 < x = l.below i u v in omega arith;
-        }
-
--- the safepoints of a record's interval ascend
-pub points_of_lem : (ws is ss : List ℕ) (k : ℕ) (r : Record) (i : Interval) (hi : ℕ) → Seated ws is k r → Given is r.interval i → hi ≡ i.safepoints.index + i.safepoints.count
-    → Points is ss → Rising ss i.safepoints.index hi
-points_of_lem ws is ss k r i hi s z e p = rw (z.safepoints, e ∙ z.safe) (p.row r.interval s.names)
-
--- one record
-module _ (ws is ms ss : List ℕ) (k : ℕ) (r : Record) (s : Seated ws is k r) where
-  module _ (i : Interval) (z : Given is r.interval i) where
-    flag : i.reference ≡ reference_of is (interval_of ws k)
-    flag = rw (← s.shown.interval) z.reference
+    pub safe_past : last < d → Says true (SafeIn ss sl sh ms ml mh first last)
+    safe_past a = says_true record { each = λ i f. absurd (let q : 2 * get_or ss j 0 ≤ last = rw (only i f) at f.before in let bot : ⊥ = omega arith in bot) }

@@ -68,6 +68,31 @@ module _ (ws : List ℕ) (n k : ℕ) (is sl ow : List ℕ) (top : ℕ) (r : Reco
       eold : old ≡ get_or sl (interval_of ws k) 0
       eold = rw (← s.interval) eo
 
+      -- another slot than before
+      pub put_differs : (old ≡ 0 → ⊥) → (old ≡ r.number + 1 → ⊥) → PutBy ws n (k + 1) is sl ow None
+      put_differs nz ne =
+          λ total u.
+          let b : Back ws k (interval_of ws k) = p.back (interval_of ws k) (omega (arith, eold)) in
+          let q : number_of ws b.by ≡ number_of ws k = u.one b.by k (wide b.by b.slot) me b.names in
+          let g : get_or sl (interval_of ws k) 0 ≡ number_of ws b.by + 1 = rw b.names at (p.given b.by b.slot) in
+          ne (omega (arith, eold, s.number))
+
+      -- the same slot as before
+      pub put_same : (old ≡ 0 → ⊥) → old ≡ r.number + 1 → r.number % z ≡ 0 → PutBy ws n (k + 1) is sl ow (Some top)
+      put_same nz e f =
+          let b : Back ws k (interval_of ws k) = p.back (interval_of ws k) (omega (arith, eold)) in
+          let g : get_or sl (interval_of ws k) 0 ≡ number_of ws b.by + 1 = rw b.names at (p.given b.by b.slot) in
+          let m : number_of ws b.by + size_at is (interval_of ws k) ≤ top = rw b.names at (p.most b.by b.slot) in
+          record {
+            given = split (λ j. get_or sl (interval_of ws j) 0 ≡ number_of ws j + 1) p.given (λ _. omega (arith, eold, s.number));
+            fits = split (λ j. number_of ws j % size_at is (interval_of ws j) ≡ 0) p.fits (λ _. rw (size, ← s.number) f);
+            back = λ v a. backs v (p.back v a);
+            owns = p.owns;
+            owned = p.owned;
+            most = split (λ j. number_of ws j + size_at is (interval_of ws j) ≤ top) p.most (λ _. omega (arith, eold, s.number));
+            reached = tops top p.reached;
+          }
+
       module _ (free : old ≡ 0) (a b : ℕ) (ea : a ≡ r.number) (eb : b ≡ r.number + z) where
         none : get_or sl (interval_of ws k) 0 ≡ 0
         none = sym eold ∙ free

@@ -40,7 +40,10 @@ fn safe_in(safepoints: &[u32], mentions: &[u32], i: Interval, r: Record) -> bool
     // the Use point of its instruction, if it is one: a word may name any
     let d = s as u64 * 2;
     let l = r.last as u64;
-    l < d || (d < l && defines(mentions, i.mentions, s))
+    if l < d {
+        return true;
+    }
+    d < l && defines(mentions, i.mentions, s)
 }
 
 fn safe_at(seats: Seats, mentions: &[u32], safepoints: &[u32], k: usize) -> bool

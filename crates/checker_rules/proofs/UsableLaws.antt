@@ -1,2 +1,0 @@
--- Rule 3.
--- Assumes nothing.

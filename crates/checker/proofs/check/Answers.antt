@@ -6,18 +6,20 @@ use Rattle.rules.proofs.Accepted.{accepted}
 use mathlib.Core.Path.{sym, ◌∙◌}
 use native.Mathlib.Omega.{arith}
 use Rattle.checker.proofs.check.Goals as goal
+use Rattle.checker.proofs.check.Goals.{then-count-gt-MOST_RECORDS-via-then-count-gt-MOST_RECORDS, then-count-gt-MOST_RECORDS-via-else-count-gt-MOST_RECORDS+then-words-count}
 
 pub returns-then-count-gt-MOST_RECORDS : goal.returns-then-count-gt-MOST_RECORDS
-returns-then-count-gt-MOST_RECORDS c = over_count _ _ c.if-count-gt-MOST_RECORDS.true
-
-pub returns-then-words-records : goal.returns-then-words-records
-returns-then-words-records c = search over_words
+returns-then-count-gt-MOST_RECORDS c =
+    elim c.then-count-gt-MOST_RECORDS.branch [
+      | then-count-gt-MOST_RECORDS-via-then-count-gt-MOST_RECORDS w ↦ over_count _ _ w.if-count-gt-MOST_RECORDS.true
+      | then-count-gt-MOST_RECORDS-via-else-count-gt-MOST_RECORDS+then-words-count w ↦ over_words _ _ w.if-count-gt-MOST_RECORDS.false w.if-words-count.true
+    ]
 
 pub returns-in-Refused : goal.returns-in-Refused
 returns-in-Refused c = search tables_refused
 
 pub judge-verdict-requires : goal.judge-verdict-requires
-judge-verdict-requires c = ready _ (accepted _ (sym c.check_tables-checked.ensures ∙ c.in-Fine.is)) _ c.if-count-gt-MOST_RECORDS.false c.if-words-records.false (λ i. omega (arith, c.shared_slice_known-5-1.given i)) (λ i. omega (arith, c.shared_slice_known-3-1.given i))
+judge-verdict-requires c = ready _ (accepted _ (sym c.check_tables-checked.ensures ∙ c.in_default.is)) _ c.if-count-gt-MOST_RECORDS.false c.if-words-count.false (λ i. omega (arith, c.type_inv.mentions i)) (λ i. omega (arith, c.type_inv.fragments i))
 
-pub returns-in-Fine : goal.returns-in-Fine
-returns-in-Fine c = search answered
+pub returns : goal.returns
+returns c = search answered

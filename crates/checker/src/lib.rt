@@ -26,18 +26,18 @@ pub struct Broken {
 }
 
 // Rules 4 to 7, where 1 to 3 hold.
-fn last_four(
+fn last_four<'a>(
     instructions: u32,
     classes: &[u32],
     registers: &[u32],
     fragments: &[u32],
-    intervals: &[u32],
+    intervals: &'a [u32],
     mentions: &[u32],
     safepoints: &[u32],
-    records: Records,
+    records: Records<'a>,
     total: u32,
     head: &mut [u16],
-    next: &[u16],
+    next: &'a [u16],
 ) -> Result<(), Broken>
     requires ready { Ready (tables instructions classes.now registers.now fragments.now intervals.now mentions.now safepoints.now) (claim records.words.now records.count total) }
     requires held { HoldBelow (tables instructions classes.now registers.now fragments.now intervals.now mentions.now safepoints.now) (claim records.words.now records.count total) 4 }
@@ -68,15 +68,15 @@ fn last_four(
 }
 
 // Rules 1 to 3, and then the others. The tables of the order come empty.
-fn all_seven(
+fn all_seven<'a>(
     instructions: u32,
     classes: &[u32],
     registers: &[u32],
     fragments: &[u32],
-    intervals: &[u32],
+    intervals: &'a [u32],
     mentions: &[u32],
     safepoints: &[u32],
-    records: Records,
+    records: Records<'a>,
     total: u32,
     head: &mut [u16],
     next: &mut [u16],

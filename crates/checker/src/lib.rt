@@ -7,7 +7,7 @@ ghost use Rattle.tables.specs.Given.{tables};
 ghost use Rattle.checker_rules.specs.Order.{Empty, Linked};
 ghost use Rattle.checker.specs.Verdict.{claim, Ready, Judges, answer_of};
 
-use checker_rules::entries::{Records, Seats};
+use checker_rules::entries::{RECORD_WORDS, Records, Seats};
 use checker_rules::order::Order;
 use checker_rules::{rule1, rule2, rule3, rule4, rule5, rule6, rule7};
 use rules::{Answer, Check};
@@ -15,7 +15,6 @@ use tables::check;
 
 const MOST_RECORDS: u32 = 16384;
 
-const RECORD_WORDS: usize = 2;
 // An entry for each point; as a table of slot units it reaches past the last slot and its size.
 const HEAD_ENTRIES: usize = 65544;
 

@@ -21,22 +21,21 @@ use Rattle.checker_rules.proofs.SaysLaws.{says_true, says_false}
 use Rattle.checker_rules.proofs.OrderLaws.{due, seen, all_seen}
 
 -- the walk: whose turn it is, and from where on each register is free
-pub record Entering (ws : List ℕ) (n : ℕ) (d e : List ℕ) (turn : Option ℕ) : Type 0 where
+pub record Entering (ws : List ℕ) (n : ℕ) (e : List ℕ) (turn : Option ℕ) : Type 0 where
   pub t : ℕ
   pub least : Least ws n t turn
   pub frees : Frees ws n e t
   pub room : 64 ≤ length e
-  pub long : length e ≡ length d
 
 -- after the walk
-pub entering_ends : (ws : List ℕ) (n : ℕ) (d e : List ℕ) (turn : Option ℕ) → Entering ws n d e turn → turn ≡ None → Says true (Lanes ws n)
-entering_ends ws n d e turn g z =
+pub entering_ends : (ws : List ℕ) (n : ℕ) (e : List ℕ) (turn : Option ℕ) → Entering ws n e turn → turn ≡ None → Says true (Lanes ws n)
+entering_ends ws n e turn g z =
     says_true record { apart = λ q p j k oj ok. g.frees.alone q p j k oj (all j oj.real) ok (all k ok.real) }
   where
     all : (k : ℕ) → k < n → rank ws k < g.t
     all = all_seen ws n g.t (rw z at g.least)
 
-module _ (ws : List ℕ) (n : ℕ) (d e e' : List ℕ) (k : ℕ) (turn : Option ℕ) (r : Record) (b : Bool) (g : Entering ws n d e turn) (regs : Registers ws n 64) (few : n ≤ 16384)
+module _ (ws : List ℕ) (n : ℕ) (e e' : List ℕ) (k : ℕ) (turn : Option ℕ) (r : Record) (b : Bool) (g : Entering ws n e turn) (regs : Registers ws n 64) (few : n ≤ 16384)
     (ek : turn ≡ Some k) (s : Shown ws k r) (en : Entered e e' r b) where
   now : Due ws n g.t k
   now = due ws n g.t k turn g.least ek
@@ -143,12 +142,11 @@ module _ (ws : List ℕ) (n : ℕ) (d e e' : List ℕ) (k : ℕ) (turn : Option 
     step (no nk) = rw (en.stays nk) (slot nk)
 
     -- a register that is free is taken
-    pub entering_more : Entering ws n d e' turn'
+    pub entering_more : Entering ws n e' turn'
     entering_more =
         record {
           t = rank ws k + 1;
           least = next;
           frees = step (ℕ_discrete r.kind 1);
           room = omega (arith, g.room, en.room);
-          long = en.room ∙ g.long;
         }

@@ -199,13 +199,6 @@ module _ (ws : List ℕ) (n k : ℕ) (is sl ow : List ℕ) (top : ℕ) (r : Reco
               go (yes l) = inr (omega arith)
               go (no l) = inl (omega arith)
 
--- all records below k
-pub record Settling (ws : List ℕ) (n k : ℕ) (is sl ow d g : List ℕ) (top : ℕ) : Type 0 where
-  pub placed : Placed ws k is sl ow top
-  pub upto : k ≤ n
-  pub long : length sl ≡ length d
-  pub far : length ow ≡ length g
-
 -- the rule
 module _ (ws : List ℕ) (n : ℕ) (is sl ow : List ℕ) (total : ℕ) where
   module _ (top : ℕ) (p : Placed ws n is sl ow top) where

@@ -8,7 +8,7 @@ use borrow.Author.Tests.{not-true, not-false}
 use mathlib.Core.Logic.{◌⊎◌, inl, inr}
 use native.Mathlib.Omega.{arith}
 use native.Mathlib.Decide.{dec_lt, ℕ_discrete}
-use lib.ListN.{length, get_or, set, length-set}
+use lib.ListN.{get_or, set, length-set}
 use lib.Seq.{get_or-set_same, get_or-set_other}
 use lib.Arith.{lt_of_le-ne}
 use Rattle.words.specs.declared.Interval.{Interval}
@@ -33,21 +33,13 @@ module _ (ws : List ℕ) (k : ℕ) (is : List ℕ) (r : Record) (s : Shown ws k 
     to : end_of is (interval_of ws k) ≡ q.end
     to = rw (← s.interval) (sym z.end)
 
--- the intervals below v have their start
-pub record Starting (is d e : List ℕ) (v : ℕ) : Type 0 where
-  pub at : (u : ℕ) → u < v → get_or e u 0 ≡ start_of is u
-  pub upto : v ≤ interval_count is
-  pub long : length e ≡ length d
-
 -- the walk: whose turn it is, and what was seen before
-pub record Joining (ws : List ℕ) (n : ℕ) (is d e : List ℕ) (turn : Option ℕ) : Type 0 where
+pub record Joining (ws : List ℕ) (n : ℕ) (is e : List ℕ) (turn : Option ℕ) : Type 0 where
   pub t : ℕ
   pub least : Least ws n t turn
   pub fronts : Fronts ws n is e t
-  pub room : interval_count is ≤ length e
-  pub long : length e ≡ length d
 
-module _ (ws : List ℕ) (n : ℕ) (is d e : List ℕ) (k : ℕ) (turn : Option ℕ) (r : Record) (g : Joining ws n is d e turn) (loose : Loose ws n is) (few : n ≤ 16384)
+module _ (ws : List ℕ) (n : ℕ) (is e : List ℕ) (k : ℕ) (turn : Option ℕ) (r : Record) (g : Joining ws n is e turn) (loose : Loose ws n is) (few : n ≤ 16384)
     (ek : turn ≡ Some k) (u : Seated ws is k r) where
   s : Shown ws k r
   s = u.shown
@@ -172,10 +164,10 @@ module _ (ws : List ℕ) (n : ℕ) (is d e : List ℕ) (k : ℕ) (turn : Option 
         alone v p i j hi hj (inr a) (inr b) = a ∙ sym b
 
     -- a record that starts where its interval is to go on
-    pub joining_more : Joining ws n is d (set e r.interval x) turn'
+    pub joining_more : Joining ws n is (set e r.interval x) turn'
     joining_more =
         rw s.interval
-        record { t = rank ws k + 1; least = next; fronts = more; room = more.room; long = length-set e (interval_of ws k) x ∙ g.long }
+        record { t = rank ws k + 1; least = next; fronts = more }
 
 -- an interval that stops short misses a point, and where none does each point is held once
 pub ended_is : (ws : List ℕ) (n : ℕ) (is e : List ℕ) (b : Bool) (m : ℕ) → Fronted ws n is e → m ≡ interval_count is → Says b ((v : ℕ) → v < m → get_or e v 0 ≡ end_of is v + 1)

@@ -17,7 +17,7 @@ pub const INSTRUCTION_UNIT: u64 = 131072;
 
 pub const MOST_INTERVALS: usize = 4096;
 
-const RECORD_WORDS: usize = 2;
+pub const RECORD_WORDS: usize = 2;
 
 const INTERVAL_WORDS: usize = 4;
 

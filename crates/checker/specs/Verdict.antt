@@ -1,8 +1,8 @@
 -- Facts for contracts: what the rules' tests need of sound tables, and what they come to. What must be answered is `Checks` of rules.
-use Rattle.rules.specs.Answers.{Answer, done}
-use Rattle.std.specs.Prelude.{ℕ, ◌+◌, ◌*◌, ◌<◌, ◌≤◌, List, length, Err}
+use Rattle.std.specs.Prelude.{ℕ, ◌+◌, ◌*◌, ◌<◌, ◌≤◌, List, length, Result, Ok, Err}
 use Rattle.words.specs.Packed.{class_at, interval_count}
-use Rattle.rules.specs.declared.Refusal.TheVariants.{BrokenRule}
+use Rattle.rules.specs.declared.Answer.{Answer}
+use Rattle.rules.specs.declared.Answer.TheVariants.{Done, BrokenRule}
 use Rattle.rules.specs.Tables.{Tables}
 use Rattle.rules.specs.Accepted.{interval}
 use Rattle.rules.specs.Placement.{Claim, Rule}
@@ -12,8 +12,7 @@ use Rattle.checker_rules.specs.Housed.{Rows}
 use Rattle.checker_rules.specs.Usable.{Classes}
 use Rattle.checker_rules.specs.Fixed.{Runs}
 use Rattle.checker_rules.specs.Safe.{Points}
-use Rattle.checker.specs.declared.Verdict.{Verdict}
-use Rattle.checker.specs.declared.Verdict.TheVariants.{Obeyed, Broken}
+use Rattle.checker.specs.declared.Broken.{Broken}
 
 -- the claim of a call
 abbrev pub claim : List ℕ → ℕ → ℕ → Claim
@@ -41,11 +40,11 @@ pub record BrokenAt (T : Tables) (c : Claim) (j : ℕ) : Type 0 where
   pub breaks : Rule T c j → ⊥
 
 -- the verdict is right
-abbrev pub Judges : Tables → Claim → Verdict → Type 0
-Judges T c Obeyed = HoldBelow T c 8
-Judges T c (Broken j) = BrokenAt T c j
+abbrev pub Judges : Tables → Claim → Result (Unit {0}) Broken → Type 0
+Judges T c (Ok _) = HoldBelow T c 8
+Judges T c (Err b) = BrokenAt T c b.rule
 
 -- "accepts as 1 with the claimed count and total", else 14 with the lowest broken rule
-abbrev pub answer_of : Verdict → ℕ → ℕ → Answer
-answer_of Obeyed n t = done n t
-answer_of (Broken j) n t = Err (BrokenRule j)
+abbrev pub answer_of : Result (Unit {0}) Broken → ℕ → ℕ → Answer
+answer_of (Ok _) n t = done n t
+answer_of (Err b) n t = Err (BrokenRule b.rule)

@@ -7,88 +7,93 @@ ghost use Rattle.tables.specs.Given.{tables};
 ghost use Rattle.checker_rules.specs.Order.{Empty, Linked};
 ghost use Rattle.checker.specs.Verdict.{claim, Ready, Judges, answer_of};
 
+use checker_rules::entries::{RECORD_WORDS, Records, Seats};
+use checker_rules::order::Order;
 use checker_rules::{rule1, rule2, rule3, rule4, rule5, rule6, rule7};
-use rules::{Done, Refusal};
+use rules::{Answer, Check};
 use tables::check;
 
 const MOST_RECORDS: u32 = 16384;
 
-const RECORD_WORDS: usize = 2;
 // An entry for each point; as a table of slot units it reaches past the last slot and its size.
 const HEAD_ENTRIES: usize = 65544;
 
-// What the rules say: all hold, or this one is the first that does not.
-#[derive(Clone, Copy)]
-pub enum Verdict {
-    Obeyed,
-    Broken(u16),
+// The lowest rule that a claim breaks.
+#[derive(Clone, Copy, Debug, PartialEq, Eq)]
+pub struct Broken {
+    pub rule: u16,
 }
 
 // Rules 4 to 7, where 1 to 3 hold.
-fn last_four(
+fn last_four<'a>(
     instructions: u32,
     classes: &[u32],
     registers: &[u32],
     fragments: &[u32],
-    intervals: &[u32],
+    intervals: &'a [u32],
     mentions: &[u32],
     safepoints: &[u32],
-    words: &[u32],
-    count: usize,
+    records: Records<'a>,
     total: u32,
     head: &mut [u16],
-    next: &[u16],
-) -> Verdict
-    requires ready { Ready (tables instructions classes.now registers.now fragments.now intervals.now mentions.now safepoints.now) (claim words.now count total) }
-    requires held { HoldBelow (tables instructions classes.now registers.now fragments.now intervals.now mentions.now safepoints.now) (claim words.now count total) 4 }
-    requires chains { (65544 ≤ length head.old) × (Linked words.now count head.old next.now) }
-    ensures { Judges (tables instructions classes.now registers.now fragments.now intervals.now mentions.now safepoints.now) (claim words.now count total) result }
+    next: &'a [u16],
+) -> Result<(), Broken>
+    requires ready { Ready (tables instructions classes.now registers.now fragments.now intervals.now mentions.now safepoints.now) (claim records.words.now records.count total) }
+    requires held { HoldBelow (tables instructions classes.now registers.now fragments.now intervals.now mentions.now safepoints.now) (claim records.words.now records.count total) 4 }
+    requires chains { (65544 ≤ length head.old) × (Linked records.words.now records.count head.old next.now) }
+    ensures { Judges (tables instructions classes.now registers.now fragments.now intervals.now mentions.now safepoints.now) (claim records.entry.words.now records.entry.count total) result }
 {
-    let points = instructions as usize * 2;
-    if !rule4::rule4(words, count, &head[..], next, points) {
-        return Verdict::Broken(4);
+    let order = Order {
+        records,
+        head: &head[..],
+        next,
+        points: instructions as usize * 2,
+    };
+    if !rule4::rule4(order) {
+        return Err(Broken { rule: 4 });
     }
-    if !rule5::rule5(words, count, registers, fragments) {
-        return Verdict::Broken(5);
+    if !rule5::rule5(records, registers, fragments) {
+        return Err(Broken { rule: 5 });
     }
     rule6::disown(head);
-    if !rule6::rule6(words, count, intervals, head, total) {
-        return Verdict::Broken(6);
+    let seats = Seats { records, intervals };
+    if !rule6::rule6(seats, head, total) {
+        return Err(Broken { rule: 6 });
     }
-    if !rule7::rule7(words, count, intervals, mentions, safepoints) {
-        return Verdict::Broken(7);
+    if !rule7::rule7(seats, mentions, safepoints) {
+        return Err(Broken { rule: 7 });
     }
-    Verdict::Obeyed
+    Ok(())
 }
 
 // Rules 1 to 3, and then the others. The tables of the order come empty.
-fn all_seven(
+fn all_seven<'a>(
     instructions: u32,
     classes: &[u32],
     registers: &[u32],
     fragments: &[u32],
-    intervals: &[u32],
+    intervals: &'a [u32],
     mentions: &[u32],
     safepoints: &[u32],
-    words: &[u32],
-    count: usize,
+    records: Records<'a>,
     total: u32,
     head: &mut [u16],
     next: &mut [u16],
-) -> Verdict
-    requires ready { Ready (tables instructions classes.now registers.now fragments.now intervals.now mentions.now safepoints.now) (claim words.now count total) }
+) -> Result<(), Broken>
+    requires ready { Ready (tables instructions classes.now registers.now fragments.now intervals.now mentions.now safepoints.now) (claim records.words.now records.count total) }
     requires room { (65544 ≤ length head.old) × (16384 ≤ length next.old) × (Empty head.old) }
-    ensures { Judges (tables instructions classes.now registers.now fragments.now intervals.now mentions.now safepoints.now) (claim words.now count total) result }
+    ensures { Judges (tables instructions classes.now registers.now fragments.now intervals.now mentions.now safepoints.now) (claim records.entry.words.now records.entry.count total) result }
 {
     let points = instructions as usize * 2;
-    if !rule1::rule1(words, count, intervals, points, head, next) {
-        return Verdict::Broken(1);
+    if !rule1::rule1(records, intervals, points, head, next) {
+        return Err(Broken { rule: 1 });
     }
-    if !rule2::rule2(words, count, intervals, mentions) {
-        return Verdict::Broken(2);
+    let seats = Seats { records, intervals };
+    if !rule2::rule2(seats, mentions) {
+        return Err(Broken { rule: 2 });
     }
-    if !rule3::rule3(words, count, intervals, classes) {
-        return Verdict::Broken(3);
+    if !rule3::rule3(seats, classes) {
+        return Err(Broken { rule: 3 });
     }
     last_four(
         instructions,
@@ -98,8 +103,7 @@ fn all_seven(
         intervals,
         mentions,
         safepoints,
-        words,
-        count,
+        records,
         total,
         head,
         &next[..],
@@ -115,12 +119,11 @@ fn judge(
     intervals: &[u32],
     mentions: &[u32],
     safepoints: &[u32],
-    words: &[u32],
-    count: usize,
+    records: Records,
     total: u32,
-) -> Verdict
-    requires { Ready (tables instructions classes.now registers.now fragments.now intervals.now mentions.now safepoints.now) (claim words.now count total) }
-    ensures { Judges (tables instructions classes.now registers.now fragments.now intervals.now mentions.now safepoints.now) (claim words.now count total) result }
+) -> Result<(), Broken>
+    requires { Ready (tables instructions classes.now registers.now fragments.now intervals.now mentions.now safepoints.now) (claim records.words.now records.count total) }
+    ensures { Judges (tables instructions classes.now registers.now fragments.now intervals.now mentions.now safepoints.now) (claim records.entry.words.now records.entry.count total) result }
 {
     let mut head = [0u16; HEAD_ENTRIES];
     let mut next = [0u16; MOST_RECORDS as usize];
@@ -132,8 +135,7 @@ fn judge(
         intervals,
         mentions,
         safepoints,
-        words,
-        count,
+        records,
         total,
         &mut head,
         &mut next,
@@ -141,12 +143,12 @@ fn judge(
 }
 
 // Accepted as done, or refused with the rule.
-fn answer(verdict: Verdict, count: u32, total: u32) -> Result<Done, Refusal>
+fn answer(verdict: Result<(), Broken>, count: u32, total: u32) -> Answer
     ensures { result ≡ answer_of verdict count total }
 {
     match verdict {
-        Verdict::Obeyed => Ok(Done { count, total }),
-        Verdict::Broken(j) => Err(Refusal::BrokenRule(j)),
+        Ok(()) => Answer::Done { count, total },
+        Err(broken) => Answer::BrokenRule(broken.rule),
     }
 }
 
@@ -162,17 +164,13 @@ pub fn check(
     words: &[u32],
     count: u32,
     total: u32,
-) -> Result<Done, Refusal>
+) -> Answer
     ensures { Checks (tables instructions classes.now registers.now fragments.now intervals.now mentions.now safepoints.now) (claim words.now count total) result }
 {
-    if MOST_RECORDS < count {
-        return Err(Refusal::OverLimit);
+    if MOST_RECORDS < count || words.len() < count as usize * RECORD_WORDS {
+        return Answer::OverLimit;
     }
-    let records = count as usize;
-    if words.len() < records * RECORD_WORDS {
-        return Err(Refusal::OverLimit);
-    }
-    check::check_tables(
+    let checked = check::check_tables(
         instructions,
         classes,
         registers,
@@ -180,7 +178,14 @@ pub fn check(
         intervals,
         mentions,
         safepoints,
-    )?;
+    );
+    if let Check::Refused(a) = checked {
+        return a;
+    }
+    let records = Records {
+        words,
+        count: count as usize,
+    };
     let verdict = judge(
         instructions,
         classes,
@@ -189,7 +194,6 @@ pub fn check(
         intervals,
         mentions,
         safepoints,
-        words,
         records,
         total,
     );

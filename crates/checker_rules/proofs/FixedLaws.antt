@@ -2,39 +2,27 @@
 -- Assumes nothing.
 use Prim.Native.Nat.{ℕ, ◌+◌, ◌-◌, ◌*◌, ◌/◌, ◌^◌, ◌<◌, ◌≤◌}
 use mathlib.Core.List.{List}
-use mathlib.Core.Path.{◌≡◌, sym, ◌∙◌, ap}
-use mathlib.Core.Bool.{Bool, true, false}
+use mathlib.Core.Path.{◌≡◌, ap}
 use native.Mathlib.Omega.{arith}
 use native.Mathlib.Decide.{dec_lt}
-use lib.ListN.{length, get_or}
+use lib.Dec.{leb}
+use lib.ListN.{get_or}
 use lib.Pow.{shr_mod}
 use Rattle.words.specs.declared.Fragment.{Fragment}
-use Rattle.words.specs.declared.Range.{Range}
-use Rattle.words.specs.declared.Record.{Record}
-use Rattle.words.specs.Packed.{range_in, fragment_in}
-use Rattle.seek.specs.Seek.{Rising, Lower}
+use Rattle.words.specs.Packed.{fragment_in}
+use Rattle.seek.specs.Seek.{Lower}
 use Rattle.checker_rules.specs.Says.{Says}
-use Rattle.checker_rules.specs.Entries.{Shown}
-use Rattle.checker_rules.specs.Lanes.{Registers}
-use Rattle.checker_rules.specs.Fixed.{first_point, last_point, fixed_from, fixed_to, Run, Runs, Meets, Clear}
-use Rattle.checker_rules.specs.Decides.{Decides5}
-use Rattle.checker_rules.proofs.SaysLaws.{says_true, says_false}
-use Rattle.checker_rules.proofs.BridgeLaws.{decides_5}
+use Rattle.checker_rules.specs.Fixed.{first_point, last_point, Run, Meets}
+use Rattle.checker_rules.proofs.SaysLaws.{says_le}
 
 -- a fragment's first point is the upper half of its word
 upper_half : (w : ℕ) → w < 2 ^ 32 → (fragment_in w).first ≡ w / 2 ^ 16
 upper_half w h = shr_mod 16 16 h
 
--- fragments ascend as words do
-pub rising : (fs : List ℕ) (lo hi : ℕ) → Run fs lo hi → Rising fs lo hi
-rising fs lo hi r =
-    record {
-      up = λ i j a b c. omega (arith, r.whole i a (omega arith), r.apart i j a b c, upper_half _ (r.small i), upper_half _ (r.small j));
-      order = r.order;
-      within = r.within;
-    }
+module _ (fs : List ℕ) (lo hi first last x j to : ℕ) (r : Run fs lo hi) (ex : x ≡ (last + 1) * 65536) (et : to ≡ hi) (lt : Lower fs lo to x j) where
+  l : Lower fs lo hi x j
+  l = rw et at lt
 
-module _ (fs : List ℕ) (lo hi first last x j : ℕ) (r : Run fs lo hi) (ex : x ≡ (last + 1) * 65536) (l : Lower fs lo hi x j) where
   -- a fragment that meets the points lies before j
   before : (m : Meets fs lo hi first last) → m.by < j
   before m = go (dec_lt m.by j)
@@ -43,31 +31,27 @@ module _ (fs : List ℕ) (lo hi first last x j : ℕ) (r : Run fs lo hi) (ex : x
       go (yes h) = h
       go (no h) = let a : x ≤ get_or fs m.by 0 = l.above m.by (omega arith) m.to in omega (arith, m.starts, m.before, upper_half _ (r.small m.by))
 
-  -- none starts at last or before
-  pub meets_none : j ≤ lo → Says false (Meets fs lo hi first last)
-  meets_none h = says_false (λ m. omega (arith, before m, m.from))
-
   module _ (i : ℕ) (f : Fragment) (ei : i ≡ j - 1) (g : lo < j) (ef : f ≡ fragment_in (get_or fs i 0)) where
     reach : f.last ≡ last_point fs i
     reach = ap (λ (f : Fragment). f.last) ef
 
     -- the last that does ends before the record
-    pub meets_not : f.last < first → Says false (Meets fs lo hi first last)
-    meets_not h = says_false (λ m. go m (dec_lt m.by i))
+    meets_not : f.last < first → Meets fs lo hi first last → ⊥
+    meets_not h m = go (dec_lt m.by i)
       where
-        go : (m : Meets fs lo hi first last) → Dec (m.by < i) → ⊥
-        go m (yes a) =
+        go : Dec (m.by < i) → ⊥
+        go (yes a) =
             let b : last_point fs m.by < first_point fs i = r.apart m.by i m.from a (omega (arith, l.to)) in
             let c : first_point fs i ≤ last_point fs i = r.whole i (omega arith) (omega (arith, l.to)) in
             omega (arith, m.ends, m.after, reach)
-        go m (no a) =
+        go (no a) =
             let b : m.by ≡ i = omega (arith, before m) in
             let c : m.point ≤ last_point fs i = rw b at m.ends in
             omega (arith, m.after, reach)
 
     -- or it does not
-    pub meets_does : first ≤ f.last → first ≤ last → Says true (Meets fs lo hi first last)
-    meets_does h o = says_true (go (dec_lt first (first_point fs i)))
+    meets_does : first ≤ f.last → first ≤ last → Meets fs lo hi first last
+    meets_does h o = go (dec_lt first (first_point fs i))
       where
         begins : first_point fs i ≤ last
         begins = let a : get_or fs i 0 < x = l.below i (omega arith) (omega arith) in omega arith
@@ -81,38 +65,5 @@ module _ (fs : List ℕ) (lo hi first last x j : ℕ) (r : Run fs lo hi) (ex : x
         go (no a) =
             record { by = i; from = omega arith; to = omega (arith, l.to); point = first; after = omega arith; before = o; starts = omega arith; ends = omega (arith, reach) }
 
--- one record
-module _ (ws rs fs : List ℕ) (k : ℕ) (r : Record) (s : Shown ws k r) where
-  pub clear_slot : (r.kind ≡ 1 → ⊥) → Says true (Clear ws rs fs k)
-  clear_slot n = says_true record { clear = λ e. absurd (n (s.kind ∙ e)) }
-
-  module _ (g : Range) (hi : ℕ) (b : Bool) (eg : g ≡ range_in (get_or rs r.number 0)) (eh : hi ≡ g.index + g.count) (m : Says b (Meets fs g.index hi r.first r.last)) where
-    el : g.index ≡ fixed_from rs r.number
-    el = ap (λ (g : Range). g.index) eg
-
-    et : hi ≡ fixed_to rs r.number
-    et = eh ∙ ap (λ (g : Range). g.index + g.count) eg
-
-    pub clear_meets : r.kind ≡ 1 → b ≡ true → Says false (Clear ws rs fs k)
-    clear_meets e q = says_false (λ c. c.clear (sym s.kind ∙ e) (rw (el, et, s.number, s.first, s.last) at (m.holds q)))
-
-    pub clear_not : r.kind ≡ 1 → b ≡ false → Says true (Clear ws rs fs k)
-    clear_not e q = says_true record { clear = λ _ x. m.fails q (rw (el, et, s.number, s.first, s.last) x) }
-
-module _ (ws : List ℕ) (n : ℕ) (rs fs : List ℕ) (k : ℕ) (r : Record) (s : Shown ws k r) (g : Registers ws n (length rs)) (h : k < n) where
-  -- a register record's register exists
-  pub place_of : r.kind ≡ 1 → r.number < length rs
-  place_of e = rw s.number (g.below k h (sym s.kind ∙ e))
-
-  pub run_of : (x : Range) (hi : ℕ) → Runs rs fs → r.kind ≡ 1 → x ≡ range_in (get_or rs r.number 0) → hi ≡ x.index + x.count → Run fs x.index hi
-  run_of x hi u e ex eh = rw (eh, ex) (u.run r.number (place_of e))
-
-  pub ordered_of : r.first ≤ r.last
-  ordered_of = rw (s.first, s.last) (g.ordered k h)
-
--- all records are clear, or one is not
-pub rule5_breaks : (ws : List ℕ) (n : ℕ) (rs fs : List ℕ) → (((k : ℕ) → k < n → Clear ws rs fs k) → ⊥) → Decides5 ws n rs fs false
-rule5_breaks ws n rs fs f = decides_5 ws n rs fs false (says_false f)
-
-pub rule5_holds : (ws : List ℕ) (n : ℕ) (rs fs : List ℕ) → ((k : ℕ) → k < n → Clear ws rs fs k) → Decides5 ws n rs fs true
-rule5_holds ws n rs fs f = decides_5 ws n rs fs true (says_true f)
+    pub meets_last : first ≤ last → Says (leb first f.last) (Meets fs lo hi first last)
+    meets_last o = says_le first f.last (λ h. meets_does h o) meets_not

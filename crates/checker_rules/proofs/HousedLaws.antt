@@ -1,104 +1,37 @@
 -- Rule 2: by rule 1 each point of a mention lies in exactly one record, so that the record which holds one point must hold them all.
 -- Assumes nothing.
-use Prim.Native.Nat.{ℕ, ◌+◌, ◌*◌, ◌/◌, ◌<◌, ◌≤◌}
+use Prim.Native.Nat.{ℕ, ◌+◌, ◌*◌, ◌<◌, ◌≤◌}
 use mathlib.Core.List.{List}
-use mathlib.Core.Path.{◌≡◌, refl, sym, ◌∙◌, ap}
-use mathlib.Core.Bool.{Bool, true, false, not, ◌||◌}
-use mathlib.Core.Logic.{inl, inr}
-use borrow.Author.Tests.{not-true, not-false}
+use mathlib.Core.Path.{◌≡◌, refl, sym, ◌∙◌}
+use mathlib.Core.Bool.{Bool, true, false, not}
+use mathlib.Core.Logic.{◌⊎◌, inl, inr}
+use lib.Dec.{leb}
+use borrow.Author.Tests.{not-false}
 use native.Mathlib.Omega.{arith}
 use native.Mathlib.Decide.{dec_lt}
 use lib.ListN.{get_or}
-use Rattle.words.specs.declared.Interval.{Interval}
-use Rattle.words.specs.declared.Mention.{Mention}
-use Rattle.words.specs.declared.Record.{Record}
-use Rattle.words.specs.Packed.{interval_count, mention_in}
-use Rattle.rules.specs.Uses.{at_use, at_def}
-use Rattle.seek.specs.Seek.{Lower}
+use Rattle.words.specs.Packed.{interval_count}
 use Rattle.checker_rules.specs.Says.{Says}
-use Rattle.checker_rules.specs.Entries.{kind_of, interval_of, first_of, last_of, mentions_from, mentions_to, Given}
-use Rattle.checker_rules.specs.Tiles.{Tiling, Once, Seated}
+use Rattle.checker_rules.specs.Entries.{kind_of, interval_of, first_of, last_of, mentions_from, mentions_to}
+use Rattle.checker_rules.specs.Tiles.{Tiling, Once}
 use Rattle.checker_rules.specs.Housed.{instruction_in, Point, Pointed, Lowest, Highest, Held, Whole, FitsIn, Row, Rows, Fits, Housed, Housing}
 use Rattle.checker_rules.specs.Decides.{Decides2}
-use Rattle.checker_rules.proofs.SaysLaws.{clashes, says_true, says_false}
+use Rattle.checker_rules.proofs.SaysLaws.{says_true, says_false, says_same, says_le}
 use Rattle.checker_rules.proofs.BridgeLaws.{decides_2}
-
--- a test that fails in both parts
-or_not : (a b : Bool) → a || b ≡ true → a ≡ false → b ≡ true
-or_not true b o e = clashes (sym e)
-or_not false b o e = o
-
-or_left : (a b : Bool) → a ≡ true → a || b ≡ true
-or_left true b e = refl
-or_left false b e = clashes e
-
-or_right : (a b : Bool) → b ≡ true → a || b ≡ true
-or_right true b e = refl
-or_right false b e = e
 
 -- a mention's points are its instruction's
 pub bounds : (w p : ℕ) → Point w p → (2 * instruction_in w ≤ p) × (p ≤ 2 * instruction_in w + 1)
 bounds w p (inl a) = (omega (arith, a.0), omega (arith, a.0))
 bounds w p (inr a) = (omega (arith, a.0), omega (arith, a.0))
 
--- the lowest and the highest point, by the flags as the code tests them
-module _ (w : ℕ) (m : Mention) (em : m ≡ mention_in w) where
-  inst : m.instruction ≡ instruction_in w
-  inst = ap (λ (m : Mention). m.instruction) em
-
-  at_use_lem : m.uses || m.mods ≡ true → at_use (mention_in w) ≡ true
-  at_use_lem o = rw em at o
-
-  at_def_lem : m.mods || m.defs ≡ true → at_def (mention_in w) ≡ true
-  at_def_lem o = rw em at o
-
-  pub low_use : m.uses ≡ true → Lowest w (2 * m.instruction)
-  low_use h = record { is = inl (omega (arith, inst), at_use_lem (or_left m.uses m.mods h)); least = λ p o. omega (arith, inst, bounds w p o) }
-
-  pub low_mod : m.mods ≡ true → Lowest w (2 * m.instruction)
-  low_mod h = record { is = inl (omega (arith, inst), at_use_lem (or_right m.uses m.mods h)); least = λ p o. omega (arith, inst, bounds w p o) }
-
-  pub low_def : Pointed w → m.uses ≡ false → m.mods ≡ false → Lowest w (2 * m.instruction + 1)
-  low_def t u o = record { is = inr (omega (arith, inst), by t.is); least = λ p o. go p o }
-    where
-      none : at_use (mention_in w) ≡ true → ⊥
-      none e = clashes (sym o ∙ or_not m.uses m.mods (rw em e) u)
-
-      by : {p : ℕ} → Point w p → at_def (mention_in w) ≡ true
-      by (inl a) = absurd (none a.1)
-      by (inr a) = a.1
-
-      go : (p : ℕ) → Point w p → 2 * m.instruction + 1 ≤ p
-      go p (inl a) = absurd (none a.1)
-      go p (inr a) = omega (arith, inst, a.0)
-
-  pub high_mod : m.mods ≡ true → Highest w (2 * m.instruction + 1)
-  high_mod h = record { is = inr (omega (arith, inst), at_def_lem (or_left m.mods m.defs h)); most = λ p o. omega (arith, inst, bounds w p o) }
-
-  pub high_def : m.defs ≡ true → Highest w (2 * m.instruction + 1)
-  high_def h = record { is = inr (omega (arith, inst), at_def_lem (or_right m.mods m.defs h)); most = λ p o. omega (arith, inst, bounds w p o) }
-
-  pub high_use : Pointed w → m.mods ≡ false → m.defs ≡ false → Highest w (2 * m.instruction)
-  high_use t o d = record { is = inl (omega (arith, inst), by t.is); most = λ p o. go p o }
-    where
-      none : at_def (mention_in w) ≡ true → ⊥
-      none e = clashes (sym d ∙ or_not m.mods m.defs (rw em e) o)
-
-      by : {p : ℕ} → Point w p → at_use (mention_in w) ≡ true
-      by (inl a) = a.1
-      by (inr a) = absurd (none a.1)
-
-      go : (p : ℕ) → Point w p → p ≤ 2 * m.instruction
-      go p (inl a) = omega (arith, inst, a.0)
-      go p (inr a) = absurd (none a.1)
-
 -- one mention and one record
 module _ (kind first last w a b : ℕ) (lo : Lowest w a) (hi : Highest w b) where
-  pub whole_after : last < a → Says true (Whole kind first last w)
-  whole_after h = says_true record { held = λ p o u v. absurd (let z : ⊥ = omega (arith, lo.least p o) in z) }
-
-  pub whole_before : b < first → Says true (Whole kind first last w)
-  whole_before h = says_true record { held = λ p o u v. absurd (let z : ⊥ = omega (arith, hi.most p o) in z) }
+  pub whole_apart : (last < a) ⊎ ((a ≤ last) × (b < first)) → Says true (Whole kind first last w)
+  whole_apart h = says_true record { held = λ p o u v. absurd (none h p o u v) }
+    where
+      none : (last < a) ⊎ ((a ≤ last) × (b < first)) → (p : ℕ) → Point w p → first ≤ p → p ≤ last → ⊥
+      none (inl c) p o u v = omega (arith, lo.least p o)
+      none (inr c) p o u v = omega (arith, hi.most p o, c.1)
 
   -- the lowest point or the highest lies in the record
   touch : a ≤ last → first ≤ b → first ≤ last → Whole kind first last w → Held kind first last w
@@ -111,19 +44,19 @@ module _ (kind first last w a b : ℕ) (lo : Lowest w a) (hi : Highest w b) wher
       go (yes c) = h.held b hi.is v (omega (arith, near))
       go (no c) = h.held a lo.is (omega arith) u
 
-  module _ (o : first ≤ last) (u : a ≤ last) (v : first ≤ b) where
-    pub whole_slot : (kind ≡ 1 → ⊥) → Says false (Whole kind first last w)
-    whole_slot n = says_false (λ h. n (touch u v o h).kind)
+  module _ (o : first ≤ last) (t : (a ≤ last) × (first ≤ b)) where
+    pub whole_not : (r : Bool) → r ≡ false → ((kind ≡ 1) × (a < first)) ⊎ (kind ≡ 1 → ⊥) → Says r (Whole kind first last w)
+    whole_not r e f = rw e (says_false (λ h. no f (touch t.0 t.1 o h)))
+      where
+        no : ((kind ≡ 1) × (a < first)) ⊎ (kind ≡ 1 → ⊥) → Held kind first last w → ⊥
+        no (inl c) h = omega (arith, h.from a lo.is, c.1)
+        no (inr n) h = n h.kind
 
-    pub whole_starts : a < first → Says false (Whole kind first last w)
-    whole_starts c = says_false (λ h. omega (arith, (touch u v o h).from a lo.is))
-
-    pub whole_ends : last < b → Says false (Whole kind first last w)
-    whole_ends c = says_false (λ h. omega (arith, (touch u v o h).to b hi.is))
-
-  pub whole_all : kind ≡ 1 → first ≤ a → b ≤ last → Says true (Whole kind first last w)
-  whole_all k c d =
-      says_true record { held = λ _ _ _ _. record { kind = k; from = λ p o. omega (arith, lo.least p o); to = λ p o. omega (arith, hi.most p o) } }
+    pub whole_last : (kind ≡ 1) × (first ≤ a) → Says (leb b last) (Whole kind first last w)
+    whole_last k =
+        says_le b last
+        (λ d. record { held = λ _ _ _ _. record { kind = k.0; from = λ p o. omega (arith, lo.least p o, k.1); to = λ p o. omega (arith, hi.most p o) } })
+        (λ d h. omega (arith, (touch t.0 t.1 o h).to b hi.is))
 
 -- the mentions of one interval
 pub record FitsTo (ms : List ℕ) (lo hi kind first last m : ℕ) : Type 0 where
@@ -132,21 +65,10 @@ pub record FitsTo (ms : List ℕ) (lo hi kind first last m : ℕ) : Type 0 where
   pub upto : m ≤ hi
 
 module _ (ms : List ℕ) (lo hi kind first last : ℕ) where
-  pub fits_starts : (x m : ℕ) → x ≡ first / 2 * 131072 → Lower ms lo hi x m → FitsTo ms lo hi kind first last m
-  fits_starts x m e l =
-      record {
-        sofar = λ i a b. record { held = λ p o u v. absurd (go i a b p o u) };
-        from = l.from;
-        upto = l.to;
-      }
-    where
-      go : (i : ℕ) → lo ≤ i → i < m → (p : ℕ) → Point (get_or ms i 0) p → first ≤ p → ⊥
-      go i a b p o u =
-          let h : get_or ms i 0 < x = l.below i a b in
-          let g : instruction_in (get_or ms i 0) < first / 2 = omega arith in
-          omega (arith, bounds (get_or ms i 0) p o)
+  module _ (m w to : ℕ) (t : FitsTo ms lo hi kind first last m) (et : to ≡ hi) (ht : m < to) (e : w ≡ get_or ms m 0) where
+    h : m < hi
+    h = omega arith
 
-  module _ (m w : ℕ) (t : FitsTo ms lo hi kind first last m) (h : m < hi) (e : w ≡ get_or ms m 0) where
     pub fits_past : (a : ℕ) → Row ms lo hi → Lowest w a → last < a → Says true (FitsIn ms lo hi kind first last)
     fits_past a r l c = says_true record { each = λ i x y. go i x y (dec_lt i m) }
       where
@@ -167,37 +89,12 @@ module _ (ms : List ℕ) (lo hi kind first last : ℕ) where
             at (yes q) p o v = omega (arith, later i q y p o)
             at (no q) p o v = let k : i ≡ m = omega arith in omega (arith, here p (rw k at o))
 
-    pub fits_breaks : (b : Bool) → Says b (Whole kind first last w) → not b ≡ true → Says false (FitsIn ms lo hi kind first last)
-    fits_breaks b s q = says_false (λ f. s.fails (not-true b q) (rw e (f.each m t.from h)))
-
     pub fits_more : (b : Bool) → Says b (Whole kind first last w) → not b ≡ false → FitsTo ms lo hi kind first last (m + 1)
     fits_more b s q = record { sofar = λ i x y. go i x y (dec_lt i m); from = omega (arith, t.from); upto = omega arith }
       where
         go : (i : ℕ) → lo ≤ i → i < m + 1 → Dec (i < m) → Whole kind first last (get_or ms i 0)
         go i x y (yes z) = t.sofar i x z
         go i x y (no z) = let k : i ≡ m = omega arith in rw (k, ← e) (s.holds (not-false b q))
-
-  pub fits_ends : (m : ℕ) → FitsTo ms lo hi kind first last m → hi ≤ m → Says true (FitsIn ms lo hi kind first last)
-  fits_ends m t h = says_true record { each = λ i x y. t.sofar i x (omega arith) }
-
--- one record
-module _ (ws is ms : List ℕ) (k : ℕ) (r : Record) (i : Interval) (hi : ℕ) (s : Seated ws is k r) (z : Given is r.interval i)
-    (eh : hi ≡ i.mentions.index + i.mentions.count) where
-  to : hi ≡ mentions_to is r.interval
-  to = eh ∙ z.mentioned
-
-  pub row_of : Rows is ms → Row ms i.mentions.index hi
-  row_of t = rw (z.mentions, to) (t.row r.interval s.names)
-
-  pub fits_of : (b : Bool) → Says b (FitsIn ms i.mentions.index hi r.kind r.first r.last) → Says b (Fits ws is ms k)
-  fits_of b d =
-      record {
-        holds = λ q. record { fits = rw (z.mentions, to, s.shown.interval, s.shown.kind, s.shown.first, s.shown.last) at (d.holds q) };
-        fails = λ q f. d.fails q (rw (z.mentions, to, s.shown.interval, s.shown.kind, s.shown.first, s.shown.last) f.fits);
-      }
-
-pub ordered : (ws : List ℕ) (n : ℕ) (is : List ℕ) (k : ℕ) (r : Record) → Tiling ws n is → k < n → Seated ws is k r → r.first ≤ r.last
-ordered ws n is k r u h s = rw (s.shown.first, s.shown.last) (u.loose.each k h).ordered
 
 -- the rule
 module _ (ws : List ℕ) (n : ℕ) (is ms : List ℕ) (t : Rows is ms) (r : Tiling ws n is) where
@@ -230,9 +127,5 @@ module _ (ws : List ℕ) (n : ℕ) (is ms : List ℕ) (t : Rows is ms) (r : Tili
           ∙ sym (once.only k (record { real = h; names = refl; from = c; to = d })) in
           rw e at x.held
 
-  -- all records fit, or one does not
-  pub rule2_breaks : (((k : ℕ) → k < n → Fits ws is ms k) → ⊥) → Decides2 ws n is ms false
-  rule2_breaks f = decides_2 ws n is ms false (says_false (λ u. f (fits_all u)))
-
-  pub rule2_holds : ((k : ℕ) → k < n → Fits ws is ms k) → Decides2 ws n is ms true
-  rule2_holds f = decides_2 ws n is ms true (says_true (housed_all f))
+  pub rule2_of : (b : Bool) → Says b ((k : ℕ) → k < n → Fits ws is ms k) → Decides2 ws n is ms b
+  rule2_of b d = decides_2 ws n is ms b (says_same housed_all fits_all d)

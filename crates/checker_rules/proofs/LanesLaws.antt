@@ -1,6 +1,6 @@
 -- Rule 4: what the walk by first points says of each register.
 -- Assumes nothing.
-use Prim.Native.Nat.{ℕ, ◌+◌, ◌*◌, ◌<◌, ◌≤◌}
+use Prim.Native.Nat.{ℕ, ◌+◌, ◌<◌, ◌≤◌}
 use mathlib.Core.List.{List}
 use mathlib.Core.Path.{◌≡◌, refl, sym, ◌∙◌, ap}
 use mathlib.Core.Bool.{Bool, true, false, not}
@@ -8,66 +8,35 @@ use mathlib.Core.Logic.{◌⊎◌, inl, inr}
 use borrow.Author.Tests.{not-true, not-false}
 use native.Mathlib.Omega.{arith}
 use native.Mathlib.Decide.{ℕ_discrete}
-use lib.ListN.{length, get_or, set, length-set}
+use lib.ListN.{length, get_or, set}
 use lib.Seq.{get_or-set_same, get_or-set_other}
 use Rattle.words.specs.declared.Record.{Record}
-use Rattle.checker_rules.specs.declared.Turn.{Turn}
-use Rattle.checker_rules.specs.declared.Turn.TheVariants.{Over, Of}
+use Rattle.std.specs.declared.option.Option.{Option}
+use Rattle.std.specs.declared.option.Option.TheVariants.{None, Some}
 use Rattle.checker_rules.specs.Says.{Says}
 use Rattle.checker_rules.specs.Entries.{kind_of, number_of, first_of, last_of, Shown}
-use Rattle.checker_rules.specs.Order.{rank, Empty, Due, Least}
+use Rattle.checker_rules.specs.Order.{rank, Due, Least}
 use Rattle.checker_rules.specs.Lanes.{On, Lanes, Registers, Entered, Met, Frees}
-use Rattle.checker_rules.proofs.SaysLaws.{clashes, says_true, says_false}
+use Rattle.checker_rules.proofs.SaysLaws.{says_true, says_false}
 use Rattle.checker_rules.proofs.OrderLaws.{due, seen, all_seen}
 
--- one record: a slot record, a register that is not free, a register that is
-pub enter_slot : (e : List ℕ) (r : Record) → (r.kind ≡ 1 → ⊥) → Entered e e r true
-enter_slot e r n =
-    record { stays = λ _. refl; moves = λ _ k. absurd (n k); free = λ _ k. absurd (n k); clash = λ z. clashes (sym z); holds = λ z. clashes (sym z); room = refl }
-
-pub enter_clash : (e : List ℕ) (r : Record) → r.kind ≡ 1 → r.first < get_or e r.number 0 → Entered e e r false
-enter_clash e r k l =
-    record { stays = λ n. absurd (n k); moves = λ z. clashes z; free = λ z. clashes z; clash = λ _. l; holds = λ _. k; room = refl }
-
-pub enter_moves : (e : List ℕ) (r : Record) (x : ℕ) → r.kind ≡ 1 → get_or e r.number 0 ≤ r.first → x ≡ r.last + 1 → Entered e (set e r.number x) r true
-enter_moves e r x k l q =
-    record { stays = λ n. absurd (n k); moves = λ _ _. rw q; free = λ _ _. l; clash = λ z. clashes (sym z); holds = λ z. clashes (sym z); room = length-set e r.number x }
-
 -- the walk: whose turn it is, and from where on each register is free
-pub record Entering (ws : List ℕ) (n : ℕ) (d e : List ℕ) (turn : Turn) : Type 0 where
+pub record Entering (ws : List ℕ) (n : ℕ) (e : List ℕ) (turn : Option ℕ) : Type 0 where
   pub t : ℕ
   pub least : Least ws n t turn
   pub frees : Frees ws n e t
   pub room : 64 ≤ length e
-  pub long : length e ≡ length d
-
--- before the walk
-pub entering_starts : (ws : List ℕ) (n : ℕ) (e : List ℕ) (turn : Turn) → Empty e → 64 ≤ length e → Least ws n (0 * 16384) turn → Entering ws n e e turn
-entering_starts ws n e turn z r l =
-    record {
-      t = 0;
-      least = l;
-      frees = record { past = λ k h a. absurd (none a); met = λ q a. absurd (bare q a); alone = λ q p j k o a. absurd (none a) };
-      room = r;
-      long = refl;
-    }
-  where
-    none : {i : ℕ} → i < 0 → ⊥
-    none a = omega arith
-
-    bare : (q : ℕ) → 0 < get_or e q 0 → ⊥
-    bare q a = omega (arith, z.all q)
 
 -- after the walk
-pub entering_ends : (ws : List ℕ) (n : ℕ) (d e : List ℕ) (turn : Turn) → Entering ws n d e turn → turn ≡ Over → Says true (Lanes ws n)
-entering_ends ws n d e turn g z =
+pub entering_ends : (ws : List ℕ) (n : ℕ) (e : List ℕ) (turn : Option ℕ) → Entering ws n e turn → turn ≡ None → Says true (Lanes ws n)
+entering_ends ws n e turn g z =
     says_true record { apart = λ q p j k oj ok. g.frees.alone q p j k oj (all j oj.real) ok (all k ok.real) }
   where
     all : (k : ℕ) → k < n → rank ws k < g.t
     all = all_seen ws n g.t (rw z at g.least)
 
-module _ (ws : List ℕ) (n : ℕ) (d e e' : List ℕ) (k : ℕ) (turn : Turn) (r : Record) (b : Bool) (g : Entering ws n d e turn) (regs : Registers ws n 64) (few : n ≤ 16384)
-    (ek : turn ≡ Of k) (s : Shown ws k r) (en : Entered e e' r b) where
+module _ (ws : List ℕ) (n : ℕ) (e e' : List ℕ) (k : ℕ) (turn : Option ℕ) (r : Record) (b : Bool) (g : Entering ws n e turn) (regs : Registers ws n 64) (few : n ≤ 16384)
+    (ek : turn ≡ Some k) (s : Shown ws k r) (en : Entered e e' r b) where
   now : Due ws n g.t k
   now = due ws n g.t k turn g.least ek
 
@@ -89,7 +58,7 @@ module _ (ws : List ℕ) (n : ℕ) (d e e' : List ℕ) (k : ℕ) (turn : Turn) (
       let low : rank ws k < g.t = rw same at m.seen in
       omega (arith, now.from))
 
-  module _ (turn' : Turn) (q : not b ≡ false) (next : Least ws n (rank ws k + 1) turn') where
+  module _ (turn' : Option ℕ) (q : not b ≡ false) (next : Least ws n (rank ws k + 1) turn') where
     ok : b ≡ true
     ok = not-false b q
 
@@ -173,16 +142,11 @@ module _ (ws : List ℕ) (n : ℕ) (d e e' : List ℕ) (k : ℕ) (turn : Turn) (
     step (no nk) = rw (en.stays nk) (slot nk)
 
     -- a register that is free is taken
-    pub entering_more : Entering ws n d e' turn'
+    pub entering_more : Entering ws n e' turn'
     entering_more =
         record {
           t = rank ws k + 1;
           least = next;
           frees = step (ℕ_discrete r.kind 1);
           room = omega (arith, g.room, en.room);
-          long = en.room ∙ g.long;
         }
-
--- a register record has one of the registers
-pub enters : (ws : List ℕ) (n k : ℕ) (r : Record) → Registers ws n 64 → k < n → Shown ws k r → r.kind ≡ 1 → r.number < 64
-enters ws n k r g h s e = rw s.number (g.below k h (sym s.kind ∙ e))

@@ -1,10 +1,10 @@
 -- The laws behind the rules' tests.
 pub mod EntriesLaws
 pub mod SaysLaws
+pub mod AllLaws
 pub mod OrderLaws
 pub mod BridgeLaws
 pub mod TilesLaws
-pub mod UsableLaws
 pub mod LanesLaws
 pub mod FixedLaws
 pub mod HousedLaws

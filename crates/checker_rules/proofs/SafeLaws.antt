@@ -3,34 +3,31 @@
 use Prim.Native.Nat.{ℕ, ◌+◌, ◌*◌, ◌/◌, ◌%◌, ◌^◌, ◌<◌, ◌≤◌}
 use mathlib.Core.List.{List}
 use mathlib.Core.Path.{◌≡◌, refl, sym, ◌∙◌, ap}
-use mathlib.Core.Bool.{Bool, true, false, not, ◌||◌}
+use mathlib.Core.Bool.{Bool, true, false, ◌||◌}
 use mathlib.Core.Logic.{inl, inr}
-use borrow.Author.Tests.{not-true, not-false}
 use native.Mathlib.Omega.{arith}
 use native.Mathlib.Decide.{dec_lt}
+use lib.Dec.{eqb}
 use lib.ListN.{get_or}
 use lib.Pow.{shr_mod}
-use Rattle.words.specs.declared.Interval.{Interval}
 use Rattle.words.specs.declared.Mention.{Mention}
-use Rattle.words.specs.declared.Record.{Record}
 use Rattle.words.specs.Packed.{mention_in}
 use Rattle.rules.specs.Uses.{at_def}
 use Rattle.seek.specs.Seek.{Rising, Lower}
 use Rattle.checker_rules.specs.Says.{Says}
-use Rattle.checker_rules.specs.Entries.{interval_of, reference_of, mentions_to, safepoints_to, Given}
-use Rattle.checker_rules.specs.Tiles.{Seated}
 use Rattle.checker_rules.specs.Housed.{instruction_in, Point, Row}
-use Rattle.checker_rules.specs.Safe.{Defined, First, SafeIn, Safe, Points}
-use Rattle.checker_rules.specs.Decides.{Decides7}
-use Rattle.checker_rules.proofs.SaysLaws.{clashes, says_true, says_false}
-use Rattle.checker_rules.proofs.BridgeLaws.{decides_7}
+use Rattle.checker_rules.specs.Safe.{Defined, First, SafeIn}
+use Rattle.checker_rules.proofs.SaysLaws.{clashes, says_true, says_eq}
 
 -- Def s is a point of w: w is at s, and a mod or a def
 is_at : (w s : ℕ) → Point w (2 * s + 1) → (instruction_in w ≡ s) × (at_def (mention_in w) ≡ true)
 is_at w s (inl a) = absurd (let bot : ⊥ = omega (arith, a.0) in bot)
 is_at w s (inr a) = (omega (arith, a.0), a.1)
 
-module _ (ms : List ℕ) (lo hi s x m : ℕ) (r : Row ms lo hi) (ex : x ≡ s * 131072) (l : Lower ms lo hi x m) where
+module _ (ms : List ℕ) (lo hi s x m to : ℕ) (r : Row ms lo hi) (ex : x ≡ s * 131072) (et : to ≡ hi) (lt : Lower ms lo to x m) where
+  l : Lower ms lo hi x m
+  l = rw et at lt
+
   -- the mention that defines at s is at m
   at_m : (d : Defined ms lo hi s) → m ≤ d.by
   at_m d = go (dec_lt d.by m)
@@ -39,10 +36,10 @@ module _ (ms : List ℕ) (lo hi s x m : ℕ) (r : Row ms lo hi) (ex : x ≡ s * 
       go (yes a) = let b : get_or ms d.by 0 < x = l.below d.by d.from a in omega (arith, (is_at (get_or ms d.by 0) s d.point).0)
       go (no a) = omega arith
 
-  pub def_none : hi ≤ m → Says false (Defined ms lo hi s)
-  def_none h = says_false (λ d. omega (arith, at_m d, d.to))
+  module _ (o : Mention) (ht : m < to) (eo : o ≡ mention_in (get_or ms m 0)) where
+    h : m < hi
+    h = omega arith
 
-  module _ (o : Mention) (h : m < hi) (eo : o ≡ mention_in (get_or ms m 0)) where
     -- it is m, since later ones are at later instructions
     same : (d : Defined ms lo hi s) → (o.instruction ≡ s) × (o.mods || o.defs ≡ true)
     same d = go (dec_lt m d.by)
@@ -61,25 +58,18 @@ module _ (ms : List ℕ) (lo hi s x m : ℕ) (r : Row ms lo hi) (ex : x ≡ s * 
             let q : Point (get_or ms m 0) (2 * s + 1) = rw e at d.point in
             rw eo (is_at (get_or ms m 0) s q)
 
-    pub def_other : (o.instruction ≡ s → ⊥) → Says false (Defined ms lo hi s)
-    def_other ne = says_false (λ d. ne (same d).0)
+    pub def_other : (o.instruction ≡ s → ⊥) → Says (eqb o.instruction s) (Defined ms lo hi s)
+    def_other ne = says_eq o.instruction s (λ e. absurd (ne e)) (λ n d. n (same d).0)
 
     here : o.instruction ≡ s → o.mods || o.defs ≡ true → Defined ms lo hi s
     here e f = record { by = m; from = l.from; to = h; point = inr (omega (arith, e, ap (λ (o : Mention). o.instruction) eo), rw eo at f) }
 
-    pub def_mod : o.instruction ≡ s → o.mods ≡ true → Says true (Defined ms lo hi s)
-    def_mod e f = says_true (here e (go o.mods o.defs f))
-      where
-        go : (a b : Bool) → a ≡ true → a || b ≡ true
-        go true b f = refl
-        go false b f = clashes f
-
     -- neither use nor mod: what is left says it
-    pub def_is : (b : Bool) → o.instruction ≡ s → o.mods ≡ false → b ≡ o.defs → Says b (Defined ms lo hi s)
-    def_is b e f eb =
+    pub def_is : o.instruction ≡ s → o.mods ≡ false → Says o.defs (Defined ms lo hi s)
+    def_is e f =
         record {
-          holds = λ t. here e (yes_def o.mods o.defs (sym eb ∙ t));
-          fails = λ t d. clashes (sym t ∙ eb ∙ no_mod o.mods o.defs f (same d).1);
+          holds = λ t. here e (yes_def o.mods o.defs t);
+          fails = λ t d. clashes (sym t ∙ no_mod o.mods o.defs f (same d).1);
         }
       where
         yes_def : (a b : Bool) → b ≡ true → a || b ≡ true
@@ -90,87 +80,31 @@ module _ (ms : List ℕ) (lo hi s x m : ℕ) (r : Row ms lo hi) (ex : x ≡ s * 
         no_mod true b f g = clashes (sym f)
         no_mod false b f g = g
 
-module _ (ss : List ℕ) (sl sh : ℕ) (ms : List ℕ) (ml mh first last x j : ℕ) (up : Rising ss sl sh) (ex : x ≡ (first + 1) / 2) (l : Lower ss sl sh x j) where
+-- the first safepoint whose Use is not below the first point is at j
+module _ (ss : List ℕ) (sl sh : ℕ) (ms : List ℕ) (ml mh first last x j to : ℕ) (up : Rising ss sl sh) (ex : x ≡ (first + 1) / 2) (et : to ≡ sh) (lt : Lower ss sl to x j) where
+  found : Lower ss sl sh x j
+  found = rw et at lt
+
   from_j : (i : ℕ) → First ss sl sh first last i → j ≤ i
   from_j i f = go (dec_lt i j)
     where
       go : Dec (i < j) → j ≤ i
-      go (yes a) = let b : get_or ss i 0 < x = l.below i f.from a in omega (arith, f.after)
+      go (yes a) = let b : get_or ss i 0 < x = found.below i f.from a in omega (arith, f.after)
       go (no a) = omega arith
 
-  pub safe_none : sh ≤ j → Says true (SafeIn ss sl sh ms ml mh first last)
-  safe_none h = says_true record { each = λ i f. absurd (let bot : ⊥ = omega (arith, from_j i f, f.to) in bot) }
+  module _ (s d : ℕ) (ht : j < to) (es : s ≡ get_or ss j 0) (ed : d ≡ s * 2) where
+    inside : j < sh
+    inside = omega arith
 
-  module _ (s d : ℕ) (h : j < sh) (es : s ≡ get_or ss j 0) (ed : d ≡ s * 2) where
     starts : first ≤ 2 * get_or ss j 0
-    starts = let a : x ≤ get_or ss j 0 = l.above j (omega arith) h in omega arith
+    starts = let a : x ≤ get_or ss j 0 = found.above j (omega arith) inside in omega arith
 
     only : (i : ℕ) → First ss sl sh first last i → i ≡ j
     only i f = go (dec_lt j i)
       where
         go : Dec (j < i) → i ≡ j
-        go (yes a) = absurd (f.none j l.from a starts (omega (arith, up.up j i l.from a f.to, f.before)))
+        go (yes a) = absurd (f.none j found.from a starts (omega (arith, up.up j i found.from a f.to, f.before)))
         go (no a) = omega (arith, from_j i f)
 
     pub safe_past : last < d → Says true (SafeIn ss sl sh ms ml mh first last)
     safe_past a = says_true record { each = λ i f. absurd (let q : 2 * get_or ss j 0 ≤ last = rw (only i f) at f.before in let bot : ⊥ = omega arith in bot) }
-
-    it : d ≤ last → First ss sl sh first last j
-    it a =
-        record {
-          from = l.from;
-          to = h;
-          after = starts;
-          before = omega arith;
-          none = λ i u v a b. let z : get_or ss i 0 < x = l.below i u v in omega arith;
-        }
-
-    pub safe_ends : d ≤ last → last < d + 1 → Says false (SafeIn ss sl sh ms ml mh first last)
-    safe_ends a b = says_false (λ f. let k = f.each j (it a) in omega (arith, k.inside))
-
-    pub safe_not : (b : Bool) → d ≤ last → Says b (Defined ms ml mh s) → not b ≡ true → Says false (SafeIn ss sl sh ms ml mh first last)
-    safe_not b a y q = says_false (λ f. y.fails (not-true b q) (rw es (f.each j (it a)).defined))
-
-    pub safe_is : (b : Bool) → d + 1 ≤ last → Says b (Defined ms ml mh s) → not b ≡ false → Says true (SafeIn ss sl sh ms ml mh first last)
-    safe_is b a y q =
-        says_true record { each = λ i f. rw (only i f, ← es) record { inside = omega arith; defined = y.holds (not-false b q) } }
-
--- the safepoints of a record's interval ascend
-pub points_of_lem : (ws is ss : List ℕ) (k : ℕ) (r : Record) (i : Interval) (hi : ℕ) → Seated ws is k r → Given is r.interval i → hi ≡ i.safepoints.index + i.safepoints.count
-    → Points is ss → Rising ss i.safepoints.index hi
-points_of_lem ws is ss k r i hi s z e p = rw (z.safepoints, e ∙ z.safe) (p.row r.interval s.names)
-
--- one record
-module _ (ws is ms ss : List ℕ) (k : ℕ) (r : Record) (s : Seated ws is k r) where
-  pub at_slot : (r.kind ≡ 1 → ⊥) → Says true (Safe ws is ms ss k)
-  at_slot n = says_true record { safe = λ e. absurd (n (s.shown.kind ∙ e)) }
-
-  module _ (i : Interval) (z : Given is r.interval i) where
-    flag : i.reference ≡ reference_of is (interval_of ws k)
-    flag = rw (← s.shown.interval) z.reference
-
-    pub at_plain : not i.reference ≡ true → Says true (Safe ws is ms ss k)
-    at_plain n = says_true record { safe = λ _ e. clashes (sym (not-true i.reference n) ∙ flag ∙ e) }
-
-    module _ (sh mh : ℕ) (es : sh ≡ i.safepoints.index + i.safepoints.count) (em : mh ≡ i.mentions.index + i.mentions.count) where
-      to_s : sh ≡ safepoints_to is r.interval
-      to_s = es ∙ z.safe
-
-      to_m : mh ≡ mentions_to is r.interval
-      to_m = em ∙ z.mentioned
-
-      pub at_safe : (b : Bool) → r.kind ≡ 1 → not i.reference ≡ false → Says b (SafeIn ss i.safepoints.index sh ms i.mentions.index mh r.first r.last) → Says b (Safe ws is ms ss k)
-      at_safe b ek ei y =
-          record {
-            holds = λ q. record { safe = λ _ _. rw (z.safepoints, to_s, z.mentions, to_m, s.shown.interval, s.shown.first, s.shown.last) at (y.holds q) };
-            fails = λ q u. y.fails q
-                (rw (z.safepoints, to_s, z.mentions, to_m, s.shown.interval, s.shown.first, s.shown.last)
-                (u.safe (sym s.shown.kind ∙ ek) (sym flag ∙ not-false i.reference ei)));
-          }
-
--- all records are safe, or one is not
-pub rule7_breaks : (ws : List ℕ) (n : ℕ) (is ms ss : List ℕ) → (((k : ℕ) → k < n → Safe ws is ms ss k) → ⊥) → Decides7 ws n is ms ss false
-rule7_breaks ws n is ms ss f = decides_7 ws n is ms ss false (says_false f)
-
-pub rule7_holds : (ws : List ℕ) (n : ℕ) (is ms ss : List ℕ) → ((k : ℕ) → k < n → Safe ws is ms ss k) → Decides7 ws n is ms ss true
-rule7_holds ws n is ms ss f = decides_7 ws n is ms ss true (says_true f)

@@ -1,40 +1,35 @@
 -- Rule 6: a slot unit has one owner, and an interval one slot.
 -- Assumes nothing.
-use Prim.Native.Nat.{ℕ, ◌+◌, ◌-◌, ◌%◌, ◌<◌, ◌≤◌}
+use Prim.Native.Nat.{ℕ, zero, suc, ◌+◌, ◌-◌, ◌*◌, ◌%◌, ◌^◌, ◌<◌, ◌≤◌, max}
+use lib.Dec.{eqb}
+use Rattle.std.specs.Option.{option_eq}
 use mathlib.Core.List.{List}
 use mathlib.Core.Path.{◌≡◌, refl, sym, ◌∙◌, ap}
-use mathlib.Core.Bool.{Bool, true, false, not}
+use mathlib.Core.Bool.{Bool, true, false}
 use mathlib.Core.Logic.{◌⊎◌, inl, inr}
-use borrow.Author.Tests.{not-true, not-false}
 use native.Mathlib.Omega.{arith}
 use native.Mathlib.Nat.{le_antisymm}
 use native.Mathlib.Decide.{dec_lt, ℕ_discrete}
-use lib.ListN.{length, get_or, set, length-set, get_or-eq_default}
+use lib.ListN.{length, get_or, set}
 use lib.Seq.{get_or-set_same, get_or-set_other}
 use Rattle.words.specs.declared.Interval.{Interval}
 use Rattle.words.specs.declared.Record.{Record}
-use Rattle.checker_rules.specs.declared.Put.{Put}
-use Rattle.checker_rules.specs.declared.Put.TheVariants.{Broken, Top}
+use Rattle.std.specs.declared.option.Option.{Option}
+use Rattle.std.specs.declared.option.Option.TheVariants.{None, Some}
 use Rattle.checker_rules.specs.Says.{Says}
 use Rattle.checker_rules.specs.Entries.{kind_of, interval_of, number_of, size_at, Shown, Given}
-use Rattle.checker_rules.specs.Order.{Empty}
 use Rattle.checker_rules.specs.Slots.{Sized, Slot, Extends, Tops, Slots, Takes, Back, Placed, Unowned, Owned, PutBy}
 use Rattle.checker_rules.specs.Decides.{Decides6}
-use Rattle.checker_rules.proofs.SaysLaws.{says_true, says_false}
+use Rattle.checker_rules.proofs.SaysLaws.{says_false, says_eq}
 use Rattle.checker_rules.proofs.BridgeLaws.{decides_6}
 
--- sizes
-pub size_0 : (log : ℕ) → log ≡ 0 → Sized log 1
-size_0 log e = record { is = rw e; pos = omega arith; most = omega arith }
-
-pub size_1 : (log : ℕ) → log ≡ 1 → Sized log 2
-size_1 log e = record { is = rw e; pos = omega arith; most = omega arith }
-
-pub size_2 : (log : ℕ) → log ≡ 2 → Sized log 4
-size_2 log e = record { is = rw e; pos = omega arith; most = omega arith }
-
-pub size_3 : (log : ℕ) → log < 4 → (log ≡ 0 → ⊥) → (log ≡ 1 → ⊥) → (log ≡ 2 → ⊥) → Sized log 8
-size_3 log h a b c = let e : log ≡ 3 = omega arith in record { is = rw e; pos = omega arith; most = omega arith }
+-- 1 shifted is the size, and no bit is lost
+pub shifted : (log : ℕ) → log < 4 → Sized log (1 * 2 ^ log % 4294967296)
+shifted zero h = record { is = refl; pos = omega arith; most = omega arith }
+shifted (suc zero) h = record { is = refl; pos = omega arith; most = omega arith }
+shifted (suc (suc zero)) h = record { is = refl; pos = omega arith; most = omega arith }
+shifted (suc (suc (suc zero))) h = record { is = refl; pos = omega arith; most = omega arith }
+shifted (suc (suc (suc (suc log)))) h = absurd (omega arith)
 
 -- one record, after those below k
 module _ (ws : List ℕ) (n k : ℕ) (is sl ow : List ℕ) (top : ℕ) (r : Record) (p : Placed ws k is sl ow top) (h : k < n) (s : Shown ws k r) where
@@ -62,19 +57,6 @@ module _ (ws : List ℕ) (n k : ℕ) (is sl ow : List ℕ) (top : ℕ) (r : Reco
   backs : (v : ℕ) → Back ws k v → Back ws (k + 1) v
   backs v b = record { by = b.by; slot = lift b.by b.slot; names = b.names }
 
-  -- no slot record
-  pub put_other : (r.kind ≡ 2 → ⊥) → PutBy ws n (k + 1) is sl ow (Top top)
-  put_other nk =
-      record {
-        given = split (λ j. get_or sl (interval_of ws j) 0 ≡ number_of ws j + 1) p.given (λ e. absurd (nk (s.kind ∙ e)));
-        fits = split (λ j. number_of ws j % size_at is (interval_of ws j) ≡ 0) p.fits (λ e. absurd (nk (s.kind ∙ e)));
-        back = λ v a. backs v (p.back v a);
-        owns = p.owns;
-        owned = p.owned;
-        most = split (λ j. number_of ws j + size_at is (interval_of ws j) ≤ top) p.most (λ e. absurd (nk (s.kind ∙ e)));
-        reached = tops top p.reached;
-      }
-
   module _ (ik : r.kind ≡ 2) (i : Interval) (z : ℕ) (gi : Given is r.interval i) (ez : Sized i.log_size z) where
     size : size_at is (interval_of ws k) ≡ z
     size = rw (← s.interval) (sym (ez.is ∙ gi.size))
@@ -82,16 +64,12 @@ module _ (ws : List ℕ) (n k : ℕ) (is sl ow : List ℕ) (top : ℕ) (r : Reco
     me : Slot ws n k
     me = record { real = h; kind = sym s.kind ∙ ik }
 
-    -- no multiple of the size
-    pub put_misfit : (r.number % z ≡ 0 → ⊥) → PutBy ws n (k + 1) is sl ow Broken
-    put_misfit ne = λ total u. ne (rw (s.number, ← size) (u.fits k me))
-
     module _ (old : ℕ) (eo : old ≡ get_or sl r.interval 0) where
       eold : old ≡ get_or sl (interval_of ws k) 0
       eold = rw (← s.interval) eo
 
       -- another slot than before
-      pub put_differs : (old ≡ 0 → ⊥) → (old ≡ r.number + 1 → ⊥) → PutBy ws n (k + 1) is sl ow Broken
+      pub put_differs : (old ≡ 0 → ⊥) → (old ≡ r.number + 1 → ⊥) → PutBy ws n (k + 1) is sl ow None
       put_differs nz ne =
           λ total u.
           let b : Back ws k (interval_of ws k) = p.back (interval_of ws k) (omega (arith, eold)) in
@@ -100,7 +78,7 @@ module _ (ws : List ℕ) (n k : ℕ) (is sl ow : List ℕ) (top : ℕ) (r : Reco
           ne (omega (arith, eold, s.number))
 
       -- the same slot as before
-      pub put_same : (old ≡ 0 → ⊥) → old ≡ r.number + 1 → r.number % z ≡ 0 → PutBy ws n (k + 1) is sl ow (Top top)
+      pub put_same : (old ≡ 0 → ⊥) → old ≡ r.number + 1 → r.number % z ≡ 0 → PutBy ws n (k + 1) is sl ow (Some top)
       put_same nz e f =
           let b : Back ws k (interval_of ws k) = p.back (interval_of ws k) (omega (arith, eold)) in
           let g : get_or sl (interval_of ws k) 0 ≡ number_of ws b.by + 1 = rw b.names at (p.given b.by b.slot) in
@@ -126,8 +104,8 @@ module _ (ws : List ℕ) (n k : ℕ) (is sl ow : List ℕ) (top : ℕ) (r : Reco
         at_b = omega (arith, eb, s.number, size)
 
         -- a unit that another has
-        pub put_clash : (c : Bool) → Says c (Unowned ow a b) → not c ≡ true → PutBy ws n (k + 1) is sl ow Broken
-        put_clash c d q = λ total u. d.fails (not-true c q) (record { bare = λ x l m. go total u x l m (ℕ_discrete (get_or ow x 0) 0) })
+        pub put_clash : (c : Bool) → Says c (Unowned ow a b) → c ≡ false → PutBy ws n (k + 1) is sl ow None
+        put_clash c d q = λ total u. d.fails q (record { bare = λ x l m. go total u x l m (ℕ_discrete (get_or ow x 0) 0) })
           where
             go : (total : ℕ) → Slots ws n is total → (x : ℕ) → a ≤ x → x < b → Dec (get_or ow x 0 ≡ 0) → get_or ow x 0 ≡ 0
             go total u x l m (yes e) = e
@@ -142,16 +120,13 @@ module _ (ws : List ℕ) (n k : ℕ) (is sl ow : List ℕ) (top : ℕ) (r : Reco
                 let gg : get_or sl (interval_of ws k) 0 ≡ number_of ws y.by + 1 = rw same at (p.given y.by y.slot) in
                 absurd (let bot : ⊥ = omega (arith, none) in bot)
 
-        module _ (x : ℕ) (ow' : List ℕ) (c : Bool) (room : r.interval < length sl) (f : r.number % z ≡ 0) (d : Says c (Unowned ow a b)) (q : not c ≡ false)
+        module _ (x : ℕ) (ow' : List ℕ) (c : Bool) (room : r.interval < length sl) (f : r.number % z ≡ 0) (d : Says c (Unowned ow a b)) (q : c ≡ true)
             (name : ℕ) (en : name ≡ r.interval + 1) (o : Owned ow ow' a b name) (ex : x ≡ r.number + 1) where
           v : ℕ
           v = interval_of ws k
 
           bare : Unowned ow a b
-          bare = d.holds (not-false c q)
-
-          sl' : List ℕ
-          sl' = set sl (interval_of ws k) x
+          bare = d.holds q
 
           here : get_or (set sl (interval_of ws k) x) (interval_of ws k) 0 ≡ number_of ws k + 1
           here = get_or-set_same sl (interval_of ws k) x 0 (rw (← s.interval) room) ∙ ex ∙ ap (λ (y : ℕ). y + 1) s.number
@@ -216,148 +191,39 @@ module _ (ws : List ℕ) (n k : ℕ) (is sl ow : List ℕ) (top : ℕ) (r : Reco
               reached (inl e) = rw e (tops top p.reached)
               reached (inr e) = inr (record { by = k; slot = record { real = omega arith; kind = me.kind }; ends = sym at_b ∙ sym e })
 
-          -- a first slot, above all
-          pub put_higher : top < b → PutBy ws n (k + 1) is (set sl r.interval x) ow' (Top b)
-          put_higher l = rw s.interval (new b (omega arith) (omega arith) (inr refl))
-
-          -- a first slot, not above all
-          pub put_lower : b ≤ top → PutBy ws n (k + 1) is (set sl r.interval x) ow' (Top top)
-          put_lower l = rw s.interval (new top (omega arith) l (inl refl))
-
--- units, one after the other
-pub record BareTo (ow : List ℕ) (a b u : ℕ) : Type 0 where
-  pub bare : (x : ℕ) → a ≤ x → x < u → get_or ow x 0 ≡ 0
-  pub from : a ≤ u
-
-pub bare_starts : (ow : List ℕ) (a b : ℕ) → BareTo ow a b a
-bare_starts ow a b = record { bare = λ x l m. absurd (let bot : ⊥ = omega arith in bot); from = omega arith }
-
-pub bare_more : (ow : List ℕ) (a b u : ℕ) → BareTo ow a b u → get_or ow u 0 ≡ 0 → BareTo ow a b (u + 1)
-bare_more ow a b u t e = record { bare = λ x l m. go x l m (dec_lt x u); from = omega (arith, t.from) }
-  where
-    go : (x : ℕ) → a ≤ x → x < u + 1 → Dec (x < u) → get_or ow x 0 ≡ 0
-    go x l m (yes g) = t.bare x l g
-    go x l m (no g) = let q : x ≡ u = omega arith in rw q e
-
-pub bare_breaks : (ow : List ℕ) (a b u : ℕ) → BareTo ow a b u → u < b → (get_or ow u 0 ≡ 0 → ⊥) → Says false (Unowned ow a b)
-bare_breaks ow a b u t h ne = says_false (λ z. ne (z.bare u t.from h))
-
-pub bare_ends : (ow : List ℕ) (a b u : ℕ) → BareTo ow a b u → b ≤ u → Says true (Unowned ow a b)
-bare_ends ow a b u t h = says_true record { bare = λ x l m. t.bare x l (omega arith) }
-
-pub record OwnTo (d ow : List ℕ) (a b name u : ℕ) : Type 0 where
-  pub owned : Owned d ow a u name
-  pub from : a ≤ u
-  pub upto : u ≤ b
-  pub long : length ow ≡ length d
-
-pub own_starts : (d : List ℕ) (a b name : ℕ) → a ≤ b → OwnTo d d a b name a
-own_starts d a b name h =
-    record { owned = record { inner = λ x l m. absurd (let bot : ⊥ = omega arith in bot); low = λ x l. refl; high = λ x l. refl; long = refl }; from = omega arith; upto = h; long = refl }
-
-pub own_more : (d ow : List ℕ) (a b name u : ℕ) → OwnTo d ow a b name u → u < b → b ≤ length d → OwnTo d (set ow u name) a b name (u + 1)
-own_more d ow a b name u t h l =
-    record {
-      owned = record {
-        inner = λ x y m. inner x y m (ℕ_discrete x u);
-        low = λ x y. get_or-set_other ow u x name 0 (λ e. let bot : ⊥ = omega (arith, t.from) in bot) ∙ t.owned.low x y;
-        high = λ x y. get_or-set_other ow u x name 0 (λ e. let bot : ⊥ = omega arith in bot) ∙ t.owned.high x (omega arith);
-        long = length-set ow u name ∙ t.long;
-      };
-      from = omega (arith, t.from);
-      upto = omega arith;
-      long = length-set ow u name ∙ t.long;
-    }
-  where
-    inner : (x : ℕ) → a ≤ x → x < u + 1 → Dec (x ≡ u) → get_or (set ow u name) x 0 ≡ name
-    inner x y m (yes e) = rw e (get_or-set_same ow u name 0 (omega (arith, t.long)))
-    inner x y m (no e) = get_or-set_other ow u x name 0 e ∙ t.owned.inner x y (omega arith)
-
-pub own_ends : (d ow : List ℕ) (a b name u : ℕ) → OwnTo d ow a b name u → b ≤ u → Owned d ow a b name
-own_ends d ow a b name u t h = let q : u ≡ b = omega (arith, t.upto) in rw q at t.owned
-
--- all records below k
-pub record Settling (ws : List ℕ) (n k : ℕ) (is sl ow d g : List ℕ) (top : ℕ) : Type 0 where
-  pub placed : Placed ws k is sl ow top
-  pub upto : k ≤ n
-  pub long : length sl ≡ length d
-  pub far : length ow ≡ length g
-
-pub settling_starts : (ws : List ℕ) (n : ℕ) (is sl ow : List ℕ) → Empty sl → Empty ow → Settling ws n 0 is sl ow sl ow 0
-settling_starts ws n is sl ow a b =
-    record {
-      placed = record {
-        given = λ j o. absurd (none j o);
-        fits = λ j o. absurd (none j o);
-        back = λ v g. absurd (let bot : ⊥ = omega (arith, a.all v) in bot);
-        owns = λ v u t. absurd (let bot : ⊥ = omega (arith, a.all v, t.pos) in bot);
-        owned = λ v u e. absurd (let bot : ⊥ = omega (arith, b.all u) in bot);
-        most = λ j o. absurd (none j o);
-        reached = inl refl;
-      };
-      upto = omega arith;
-      long = refl;
-      far = refl;
-    }
-  where
-    none : (j : ℕ) → Slot ws 0 j → ⊥
-    none j o = omega (arith, o.real)
-
-pub settling_more : (ws : List ℕ) (n k : ℕ) (is sl ow sl' ow' d g : List ℕ) (top t : ℕ) (r : Put) → Settling ws n k is sl ow d g top → k < n
-    → PutBy ws n (k + 1) is sl' ow' r → r ≡ Top t → length sl' ≡ length sl → length ow' ≡ length ow → Settling ws n (k + 1) is sl' ow' d g t
-settling_more ws n k is sl ow sl' ow' d g top t r s h p e a b =
-    record { placed = rw e at p; upto = omega arith; long = a ∙ s.long; far = b ∙ s.far }
-
-pub settling_breaks : (ws : List ℕ) (n k : ℕ) (is sl ow : List ℕ) (r : Put) → PutBy ws n (k + 1) is sl ow r → r ≡ Broken → PutBy ws n n is sl ow Broken
-settling_breaks ws n k is sl ow r p e = rw e at p
-
-pub settling_ends : (ws : List ℕ) (n k : ℕ) (is sl ow d g : List ℕ) (top : ℕ) → Settling ws n k is sl ow d g top → n ≤ k → PutBy ws n n is sl ow (Top top)
-settling_ends ws n k is sl ow d g top t h =
-    let q : k ≡ n = omega (arith, t.upto) in
-    rw q at t.placed
-
--- a table all of whose units got 0 is empty
-pub disowned : (ow ow' : List ℕ) (all : ℕ) → all ≡ length ow → Owned ow ow' 0 all 0 → Empty ow'
-disowned ow ow' all e o = record { all = λ u. go u (dec_lt u all) }
-  where
-    go : (u : ℕ) → Dec (u < all) → get_or ow' u 0 ≡ 0
-    go u (yes h) = o.inner u (omega arith) h
-    go u (no h) = get_or-eq_default ow' 0 (omega (arith, o.long))
+          -- a first slot, above all or not
+          pub put_first : (m : ℕ) → m ≡ max top b → PutBy ws n (k + 1) is (set sl r.interval x) ow' (Some m)
+          put_first m e = rw s.interval (new m (omega arith) (omega arith) (go (dec_lt top b)))
+            where
+              go : Dec (top < b) → (m ≡ top) ⊎ (m ≡ b)
+              go (yes l) = inr (omega arith)
+              go (no l) = inl (omega arith)
 
 -- the rule
-module _ (ws : List ℕ) (n : ℕ) (is sl ow : List ℕ) (r : Put) (total : ℕ) (e : PutBy ws n n is sl ow r) where
-  -- a record broke it
-  pub rule6_broken : r ≡ Broken → Decides6 ws n is total false
-  rule6_broken q = let f : (total : ℕ) → Slots ws n is total → ⊥ = rw q at e in decides_6 ws n is total false (says_false (f total))
-
-  module _ (top : ℕ) (q : r ≡ Top top) where
-    p : Placed ws n is sl ow top
-    p = rw q at e
-
+module _ (ws : List ℕ) (n : ℕ) (is sl ow : List ℕ) (total : ℕ) where
+  module _ (top : ℕ) (p : Placed ws n is sl ow top) where
     -- the total is another
-    pub rule6_total : (top ≡ total → ⊥) → Decides6 ws n is total false
-    rule6_total ne = decides_6 ws n is total false (says_false (λ u. ne (le_antisymm (low u p.reached) (high u.reached))))
+    other : (top ≡ total → ⊥) → Slots ws n is total → ⊥
+    other ne u = ne (le_antisymm (low p.reached) (high u.reached))
       where
-        low : Slots ws n is total → (top ≡ 0) ⊎ Tops ws n is top → top ≤ total
-        low u (inl z) = omega arith
-        low u (inr m) = omega (arith, u.most m.by m.slot, m.ends)
+        low : (top ≡ 0) ⊎ Tops ws n is top → top ≤ total
+        low (inl z) = omega arith
+        low (inr m) = omega (arith, u.most m.by m.slot, m.ends)
 
         high : (total ≡ 0) ⊎ Tops ws n is total → total ≤ top
         high (inl z) = omega arith
         high (inr m) = omega (arith, p.most m.by m.slot, m.ends)
 
     -- it holds
-    pub rule6_holds : top ≡ total → Decides6 ws n is total true
-    rule6_holds w =
-        decides_6 ws n is total true
-        (says_true
+    good : top ≡ total → Slots ws n is total
+    good w =
         record {
           one = λ j k sj sk v. same j k sj sk v;
           fits = p.fits;
           apart = λ j k u sj sk cj ck. apart j k u sj sk cj ck;
           most = λ k s. rw (← w) (p.most k s);
           reached = rw w at p.reached;
-        })
+        }
       where
         same : (j k : ℕ) → Slot ws n j → Slot ws n k → interval_of ws j ≡ interval_of ws k → number_of ws j ≡ number_of ws k
         same j k sj sk v = let a : get_or sl (interval_of ws k) 0 ≡ number_of ws j + 1 = rw v at (p.given j sj) in omega (arith, p.given k sk)
@@ -367,3 +233,8 @@ module _ (ws : List ℕ) (n : ℕ) (is sl ow : List ℕ) (r : Put) (total : ℕ)
 
         apart : (j k u : ℕ) → Slot ws n j → Slot ws n k → Extends ws is j u → Extends ws is k u → interval_of ws j ≡ interval_of ws k
         apart j k u sj sk cj ck = omega (arith, p.owns _ u (takes j u sj cj), p.owns _ u (takes k u sk ck))
+
+  -- what the slot records come to decides it
+  pub rule6_of : (r : Option ℕ) (b : Bool) → PutBy ws n n is sl ow r → b ≡ option_eq eqb r (Some total) → Decides6 ws n is total b
+  rule6_of None b p e = rw e (decides_6 ws n is total false (says_false (p total)))
+  rule6_of (Some top) b p e = rw e (decides_6 ws n is total (eqb top total) (says_eq top total (good top p) (other top p)))

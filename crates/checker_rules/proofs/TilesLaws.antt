@@ -1,77 +1,31 @@
 -- Rule 1: what the walk by first points says of each point.
 -- Assumes nothing.
-use Prim.Native.Nat.{ℕ, ◌+◌, ◌*◌, ◌<◌, ◌≤◌}
+use Prim.Native.Nat.{ℕ, ◌+◌, ◌<◌, ◌≤◌}
 use mathlib.Core.List.{List}
 use mathlib.Core.Path.{◌≡◌, refl, sym, ◌∙◌, ap}
 use mathlib.Core.Bool.{Bool, true, false, not}
 use borrow.Author.Tests.{not-true, not-false}
-use mathlib.Core.Logic.{◌⊎◌, inl, inr, ⊎_elim}
+use mathlib.Core.Logic.{◌⊎◌, inl, inr}
 use native.Mathlib.Omega.{arith}
 use native.Mathlib.Decide.{dec_lt, ℕ_discrete}
-use lib.ListN.{length, get_or, set, length-set}
+use lib.ListN.{get_or, set, length-set}
 use lib.Seq.{get_or-set_same, get_or-set_other}
 use lib.Arith.{lt_of_le-ne}
 use Rattle.words.specs.declared.Interval.{Interval}
 use Rattle.words.specs.declared.Record.{Record}
 use Rattle.words.specs.Packed.{interval_count}
-use Rattle.checker_rules.specs.declared.Turn.{Turn}
-use Rattle.checker_rules.specs.declared.Turn.TheVariants.{Over, Of}
+use Rattle.std.specs.declared.option.Option.{Option}
+use Rattle.std.specs.declared.option.Option.TheVariants.{Some}
 use Rattle.checker_rules.specs.Says.{Says}
 use Rattle.checker_rules.specs.Entries.{interval_of, first_of, last_of, start_of, end_of, Shown, Given}
 use Rattle.checker_rules.specs.Order.{rank, Linked, Below, Due, Least}
-use Rattle.checker_rules.specs.Tiles.{Known, Sits, Loose, Covers, Once, Tiled, Tiling, Within, Fronts, Fronted, Started, Joined, Seated, Judged}
-use Rattle.checker_rules.proofs.SaysLaws.{clashes, says_true, says_false}
-use Rattle.checker_rules.proofs.OrderLaws.{due, seen, all_seen}
+use Rattle.checker_rules.specs.Tiles.{Sits, Loose, Covers, Once, Tiled, Tiling, Within, Fronts, Fronted, Joined, Seated, Judged}
+use Rattle.checker_rules.proofs.SaysLaws.{clashes, says_false, says_same}
+use Rattle.checker_rules.proofs.OrderLaws.{due, seen}
 use Rattle.checker_rules.proofs.BridgeLaws.{decides_1}
-
--- the two kinds are known, and no other
-pub known_one : (k : ℕ) → k ≡ 1 → Says true (Known k)
-known_one k e = says_true (inl e)
-
-pub known_two : (k : ℕ) → k ≡ 2 → Says true (Known k)
-known_two k e = says_true (inr e)
-
-pub known_not : (k : ℕ) → (k ≡ 1 → ⊥) → (k ≡ 2 → ⊥) → Says false (Known k)
-known_not k f g = says_false (λ s. ⊎_elim f g s)
-
--- all records below k sit
-pub record LooseTo (ws : List ℕ) (n k : ℕ) (is : List ℕ) : Type 0 where
-  pub loose : Loose ws k is
-  pub upto : k ≤ n
-
-pub loose_starts : (ws : List ℕ) (n : ℕ) (is : List ℕ) → LooseTo ws n 0 is
-loose_starts ws n is = record { loose = record { each = λ k h. absurd (below k h) }; upto = omega arith }
-  where
-    below : (k : ℕ) → k < 0 → ⊥
-    below k h = omega arith
-
-pub loose_ends : (ws : List ℕ) (n k : ℕ) (is : List ℕ) → LooseTo ws n k is → n ≤ k → Says true (Loose ws n is)
-loose_ends ws n k is l h = let q : k ≡ n = omega (arith, l.upto) in says_true (rw q at l.loose)
-
-pub loose_broken : (ws : List ℕ) (n k : ℕ) (is : List ℕ) (b : Bool) → k < n → Says b (Sits ws is k) → not b ≡ true → Says false (Loose ws n is)
-loose_broken ws n k is b h d e = says_false (λ l. d.fails (not-true b e) (l.each k h))
-
-pub loose_more : (ws : List ℕ) (n k : ℕ) (is : List ℕ) (b : Bool) → LooseTo ws n k is → k < n → Says b (Sits ws is k) → not b ≡ false → LooseTo ws n (k + 1) is
-loose_more ws n k is b l h d e = record { loose = record { each = λ j a. go j a (dec_lt j k) }; upto = omega arith }
-  where
-    go : (j : ℕ) → j < k + 1 → Dec (j < k) → Sits ws is j
-    go j a (yes g) = l.loose.each j g
-    go j a (no g) = let m : j ≡ k = omega arith in rw m (d.holds (not-false b e))
 
 -- one record: a test that fails, or all that pass
 module _ (ws : List ℕ) (k : ℕ) (is : List ℕ) (r : Record) (s : Shown ws k r) where
-  pub sits_kind : (b : Bool) → Says b (Known r.kind) → not b ≡ true → Says false (Sits ws is k)
-  sits_kind b d e = says_false (λ l. d.fails (not-true b e) (rw s.kind l.known))
-
-  pub sits_spare : (r.spare ≡ 0 → ⊥) → Says false (Sits ws is k)
-  sits_spare f = says_false (λ l. f (s.spare ∙ l.spare))
-
-  pub sits_order : r.last < r.first → Says false (Sits ws is k)
-  sits_order f = says_false (λ l. omega (arith, l.ordered, s.first, s.last))
-
-  pub sits_names : interval_count is ≤ r.interval → Says false (Sits ws is k)
-  sits_names f = says_false (λ l. omega (arith, l.names, s.interval))
-
   module _ (q : Interval) (z : Given is r.interval q) where
     at : start_of is (interval_of ws k) ≡ q.start
     at = rw (← s.interval) (sym z.start)
@@ -79,93 +33,14 @@ module _ (ws : List ℕ) (k : ℕ) (is : List ℕ) (r : Record) (s : Shown ws k 
     to : end_of is (interval_of ws k) ≡ q.end
     to = rw (← s.interval) (sym z.end)
 
-    pub sits_from : r.first < q.start → Says false (Sits ws is k)
-    sits_from f = says_false (λ l. omega (arith, l.from, s.first, at))
-
-    pub sits_to : q.end < r.last → Says false (Sits ws is k)
-    sits_to f = says_false (λ l. omega (arith, l.to, s.last, to))
-
-    pub sits_all : (b : Bool) → Says b (Known r.kind) → not b ≡ false → r.spare ≡ 0 → r.first ≤ r.last → r.interval < interval_count is
-        → q.start ≤ r.first → r.last ≤ q.end → Says true (Sits ws is k)
-    sits_all b d e p o i u w =
-        says_true
-        record {
-          known = rw s.kind at (d.holds (not-false b e));
-          spare = sym s.spare ∙ p;
-          ordered = omega (arith, s.first, s.last);
-          names = omega (arith, s.interval);
-          from = omega (arith, at, s.first);
-          to = omega (arith, to, s.last);
-        }
-
--- the intervals below v have their start
-pub record Starting (is d e : List ℕ) (v : ℕ) : Type 0 where
-  pub at : (u : ℕ) → u < v → get_or e u 0 ≡ start_of is u
-  pub upto : v ≤ interval_count is
-  pub long : length e ≡ length d
-
-pub starting_starts : (is e : List ℕ) → Starting is e e 0
-starting_starts is e = record { at = λ u h. absurd (below u h); upto = omega arith; long = refl }
-  where
-    below : (k : ℕ) → k < 0 → ⊥
-    below k h = omega arith
-
-pub starting_more : (is d e : List ℕ) (v x : ℕ) (q : Interval) → Starting is d e v → v < interval_count is → interval_count is ≤ length d → Given is v q → x ≡ q.start
-    → Starting is d (set e v x) (v + 1)
-starting_more is d e v x q g h l z w =
-    record { at = λ u a. go u a (ℕ_discrete u v); upto = omega arith; long = length-set e v x ∙ g.long }
-  where
-    go : (u : ℕ) → u < v + 1 → Dec (u ≡ v) → get_or (set e v x) u 0 ≡ start_of is u
-    go u a (yes m) = rw (m, get_or-set_same e v x 0 (omega (arith, g.long))) (w ∙ z.start)
-    go u a (no m) = rw (get_or-set_other e v u x 0 m) (g.at u (omega arith))
-
-pub starting_ends : (is d e : List ℕ) (v : ℕ) → Starting is d e v → interval_count is ≤ v → interval_count is ≤ length d → Started is e
-starting_ends is d e v g h l = record { at = λ u a. g.at u (omega arith); room = omega (arith, g.long) }
-
 -- the walk: whose turn it is, and what was seen before
-pub record Joining (ws : List ℕ) (n : ℕ) (is d e : List ℕ) (turn : Turn) : Type 0 where
+pub record Joining (ws : List ℕ) (n : ℕ) (is e : List ℕ) (turn : Option ℕ) : Type 0 where
   pub t : ℕ
   pub least : Least ws n t turn
   pub fronts : Fronts ws n is e t
-  pub room : interval_count is ≤ length e
-  pub long : length e ≡ length d
 
--- before the walk
-pub joining_starts : (ws : List ℕ) (n : ℕ) (is e : List ℕ) (turn : Turn) (points : ℕ) → Started is e → Within is points → Least ws n (0 * 16384) turn → Joining ws n is e e turn
-joining_starts ws n is e turn points s w l =
-    record {
-      t = 0;
-      least = l;
-      fronts =
-          record {
-            low = λ v h. omega (arith, s.at v h);
-            high = λ v h. omega (arith, s.at v h, w.ordered v h);
-            past = λ k h a. absurd (none a);
-            covered = λ v p h a b. absurd (empty v p h a b);
-            alone = λ v p j k x a. absurd (none a);
-            room = s.room;
-          };
-      room = s.room;
-      long = refl;
-    }
-  where
-    none : {i : ℕ} → i < 0 → ⊥
-    none a = omega arith
-
-    empty : (v p : ℕ) → v < interval_count is → start_of is v ≤ p → p < get_or e v 0 → ⊥
-    empty v p h a b = omega (arith, s.at v h)
-
--- after the walk
-pub joining_ends : (ws : List ℕ) (n : ℕ) (is d e : List ℕ) (turn : Turn) → Joining ws n is d e turn → turn ≡ Over → Joined ws n is e true
-joining_ends ws n is d e turn g z =
-    record {
-      holds = λ _. record { t = g.t; fronts = g.fronts; all = all_seen ws n g.t (rw z at g.least) };
-      fails = λ q. clashes (sym q);
-      room = g.fronts.room;
-    }
-
-module _ (ws : List ℕ) (n : ℕ) (is d e : List ℕ) (k : ℕ) (turn : Turn) (r : Record) (g : Joining ws n is d e turn) (loose : Loose ws n is) (few : n ≤ 16384)
-    (ek : turn ≡ Of k) (u : Seated ws is k r) where
+module _ (ws : List ℕ) (n : ℕ) (is e : List ℕ) (k : ℕ) (turn : Option ℕ) (r : Record) (g : Joining ws n is e turn) (loose : Loose ws n is) (few : n ≤ 16384)
+    (ek : turn ≡ Some k) (u : Seated ws is k r) where
   s : Shown ws k r
   s = u.shown
 
@@ -225,7 +100,7 @@ module _ (ws : List ℕ) (n : ℕ) (is d e : List ℕ) (k : ℕ) (turn : Turn) (
       go tiled (yes a) = twice tiled a
       go tiled (no a) = gap tiled (lt_of_le-ne (omega arith) differs)
 
-  module _ (x : ℕ) (turn' : Turn) (same : get_or e r.interval 0 ≡ r.first) (ex : x ≡ r.last + 1) (next : Least ws n (rank ws k + 1) turn') where
+  module _ (x : ℕ) (turn' : Option ℕ) (same : get_or e r.interval 0 ≡ r.first) (ex : x ≡ r.last + 1) (next : Least ws n (rank ws k + 1) turn') where
     meets : get_or e (interval_of ws k) 0 ≡ first_of ws k
     meets = rw (← s.interval, ← s.first) same
 
@@ -289,65 +164,42 @@ module _ (ws : List ℕ) (n : ℕ) (is d e : List ℕ) (k : ℕ) (turn : Turn) (
         alone v p i j hi hj (inr a) (inr b) = a ∙ sym b
 
     -- a record that starts where its interval is to go on
-    pub joining_more : Joining ws n is d (set e r.interval x) turn'
+    pub joining_more : Joining ws n is (set e r.interval x) turn'
     joining_more =
         rw s.interval
-        record { t = rank ws k + 1; least = next; fronts = more; room = more.room; long = length-set e (interval_of ws k) x ∙ g.long }
+        record { t = rank ws k + 1; least = next; fronts = more }
 
--- the intervals below v have their end
-pub record EndedTo (is e : List ℕ) (v : ℕ) : Type 0 where
-  pub at : (u : ℕ) → u < v → get_or e u 0 ≡ end_of is u + 1
-  pub upto : v ≤ interval_count is
-
-pub ended_starts : (is e : List ℕ) → EndedTo is e 0
-ended_starts is e = record { at = λ u h. absurd (below u h); upto = omega arith }
+-- an interval that stops short misses a point, and where none does each point is held once
+pub ended_is : (ws : List ℕ) (n : ℕ) (is e : List ℕ) (b : Bool) (m : ℕ) → Fronted ws n is e → m ≡ interval_count is → Says b ((v : ℕ) → v < m → get_or e v 0 ≡ end_of is v + 1)
+    → Says b (Tiled ws n is)
+ended_is ws n is e b m f em d = says_same held full (rw em at d)
   where
-    below : (k : ℕ) → k < 0 → ⊥
-    below k h = omega arith
+    held : ((v : ℕ) → v < interval_count is → get_or e v 0 ≡ end_of is v + 1) → Tiled ws n is
+    held g =
+        record {
+          once = λ u p a b c.
+              let k = f.fronts.covered u p a b (omega (arith, g u a)) in
+              record {
+                one = k.0;
+                covers = k.1;
+                only = λ j hj. f.fronts.alone u p j k.0 hj (f.all j hj.real) k.1 k.2;
+              };
+        }
 
-pub ended_more : (is e : List ℕ) (v x : ℕ) (q : Interval) → EndedTo is e v → v < interval_count is → Given is v q → x ≡ q.end + 1 → get_or e v 0 ≡ x → EndedTo is e (v + 1)
-ended_more is e v x q g h z w m = record { at = λ u a. go u a (ℕ_discrete u v); upto = omega arith }
-  where
-    go : (u : ℕ) → u < v + 1 → Dec (u ≡ v) → get_or e u 0 ≡ end_of is u + 1
-    go u a (yes b) = rw b (omega (arith, z.end))
-    go u a (no b) = g.at u (omega arith)
+    short : Tiled ws n is → (v : ℕ) → v < interval_count is → (get_or e v 0 ≡ end_of is v + 1 → ⊥) → ⊥
+    short tiled v h m =
+        let u : get_or e v 0 < end_of is v + 1 = lt_of_le-ne (f.fronts.high v h) m in
+        let o : Once ws n v (get_or e v 0) = tiled.once v (get_or e v 0) h (f.fronts.low v h) (omega arith) in
+        let p = f.fronts.past o.one o.covers.real (f.all o.one o.covers.real) in
+        let b : last_of ws o.one < get_or e v 0 = rw o.covers.names at p in
+        omega (arith, o.covers.to)
 
--- an interval that stops short misses a point
-pub ended_breaks : (ws : List ℕ) (n : ℕ) (is e : List ℕ) (v x : ℕ) (q : Interval) → Fronted ws n is e → v < interval_count is → Given is v q → x ≡ q.end + 1
-    → (get_or e v 0 ≡ x → ⊥) → Says false (Tiled ws n is)
-ended_breaks ws n is e v x q f h z w m =
-    says_false
-    (λ tiled.
-    let u : get_or e v 0 < end_of is v + 1 = lt_of_le-ne (f.fronts.high v h) (λ a. m (omega (arith, z.end))) in
-    let o : Once ws n v (get_or e v 0) = tiled.once v (get_or e v 0) h (f.fronts.low v h) (omega arith) in
-    let p = f.fronts.past o.one o.covers.real (f.all o.one o.covers.real) in
-    let b : last_of ws o.one < get_or e v 0 = rw o.covers.names at p in
-    omega (arith, o.covers.to))
-
--- none does
-pub ended_ends : (ws : List ℕ) (n : ℕ) (is e : List ℕ) (v : ℕ) → Fronted ws n is e → EndedTo is e v → interval_count is ≤ v → Says true (Tiled ws n is)
-ended_ends ws n is e v f g h =
-    says_true
-    record {
-      once = λ u p a b c.
-          let k = f.fronts.covered u p a b (omega (arith, g.at u (omega arith))) in
-          record {
-            one = k.0;
-            covers = k.1;
-            only = λ j hj. f.fronts.alone u p j k.0 hj (f.all j hj.real) k.1 k.2;
-          };
-    }
-
--- a record that sits names an interval
-pub seated : (ws : List ℕ) (n : ℕ) (is : List ℕ) (k : ℕ) (r : Record) → Loose ws n is → k < n → Shown ws k r → Seated ws is k r
-seated ws n is k r l h s = record { shown = s; names = rw s.interval (l.each k h).names }
-
--- what the walk came to
-pub tiled_broken : (ws : List ℕ) (n : ℕ) (is e : List ℕ) (b : Bool) → Joined ws n is e b → not b ≡ true → Says false (Tiled ws n is)
-tiled_broken ws n is e b j q = says_false (j.fails (not-true b q))
-
-pub tiled_fronted : (ws : List ℕ) (n : ℕ) (is e : List ℕ) (b : Bool) → Joined ws n is e b → not b ≡ false → Fronted ws n is e
-tiled_fronted ws n is e b j q = j.holds (not-false b q)
+    full : Tiled ws n is → (v : ℕ) → v < interval_count is → get_or e v 0 ≡ end_of is v + 1
+    full t v h = go (ℕ_discrete (get_or e v 0) (end_of is v + 1))
+      where
+        go : Dec (get_or e v 0 ≡ end_of is v + 1) → get_or e v 0 ≡ end_of is v + 1
+        go (yes q) = q
+        go (no q) = absurd (short t v h q)
 
 -- where all records sit, none starts past the last point
 pub below : (ws : List ℕ) (n : ℕ) (is : List ℕ) (points : ℕ) (b : Bool) → Says b (Loose ws n is) → not b ≡ false → Within is points → Below ws n points
@@ -357,9 +209,6 @@ below ws n is points b s e w =
       under = λ k h. omega (arith, (l.each k h).ordered, (l.each k h).to, w.under (interval_of ws k) (l.each k h).names);
       most = w.most;
     }
-
-pub loosely : (ws : List ℕ) (n : ℕ) (is : List ℕ) (b : Bool) → Says b (Loose ws n is) → not b ≡ false → Loose ws n is
-loosely ws n is b s e = s.holds (not-false b e)
 
 -- a record that does not sit breaks the rule
 pub rule1_loose : (ws : List ℕ) (n : ℕ) (is head next : List ℕ) (b : Bool) → Says b (Loose ws n is) → not b ≡ true → Judged ws n is head next false

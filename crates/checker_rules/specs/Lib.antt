@@ -3,6 +3,7 @@ pub mod Says
 pub mod Entries
 pub mod Order
 pub mod Decides
+pub mod Kinds
 pub mod Tiles
 pub mod Usable
 pub mod Lanes

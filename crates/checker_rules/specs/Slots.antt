@@ -1,7 +1,5 @@
 -- Rule 6 by records, and what the tables that test it hold.
-use Rattle.std.specs.Prelude.{ℕ, ◌+◌, ◌%◌, ◌^◌, ◌<◌, ◌≤◌, List, ◌≡◌, ◌⊎◌, get_or, length}
-use Rattle.checker_rules.specs.declared.Put.{Put}
-use Rattle.checker_rules.specs.declared.Put.TheVariants.{Broken, Top}
+use Rattle.std.specs.Prelude.{ℕ, ◌+◌, ◌%◌, ◌^◌, ◌<◌, ◌≤◌, List, ◌≡◌, ◌⊎◌, get_or, length, Option, Some, None}
 use Rattle.checker_rules.specs.Entries.{kind_of, interval_of, number_of, size_at}
 
 -- the size of a logarithm
@@ -68,6 +66,6 @@ pub record Owned (ow ow' : List ℕ) (a b entry : ℕ) : Type 0 where
   pub long : length ow' ≡ length ow
 
 -- the records below k come to r, of n that the rule speaks of
-abbrev pub PutBy : List ℕ → ℕ → ℕ → List ℕ → List ℕ → List ℕ → Put → Type 0
-PutBy ws n k is sl ow Broken = (total : ℕ) → Slots ws n is total → ⊥
-PutBy ws n k is sl ow (Top t) = Placed ws k is sl ow t
+abbrev pub PutBy : List ℕ → ℕ → ℕ → List ℕ → List ℕ → List ℕ → Option ℕ → Type 0
+PutBy ws n k is sl ow None = (total : ℕ) → Slots ws n is total → ⊥
+PutBy ws n k is sl ow (Some t) = Placed ws k is sl ow t

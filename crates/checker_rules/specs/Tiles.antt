@@ -1,14 +1,11 @@
 -- Rule 1 by records and intervals, and what the walk that tests it knows. `Tiling` and Placement's Rule1 say the same (proofs/BridgeLaws).
-use Rattle.std.specs.Prelude.{ℕ, ◌+◌, ◌<◌, ◌≤◌, List, ◌≡◌, ◌⊎◌, Bool, true, false, get_or, length}
+use Rattle.std.specs.Prelude.{ℕ, ◌+◌, ◌<◌, ◌≤◌, List, ◌≡◌, Bool, true, false, get_or, length}
 use Rattle.words.specs.declared.Record.{Record}
 use Rattle.words.specs.Packed.{interval_count}
 use Rattle.checker_rules.specs.Entries.{kind_of, spare_of, interval_of, first_of, last_of, start_of, end_of, Shown}
 use Rattle.checker_rules.specs.Order.{rank, Linked}
+use Rattle.checker_rules.specs.Kinds.{Known}
 use Rattle.checker_rules.specs.Decides.{Decides1}
-
--- a register record or a slot record
-abbrev pub Known : ℕ → Type 0
-Known k = (k ≡ 1) ⊎ (k ≡ 2)
 
 -- record k is well packed, names an interval and stays inside it
 pub record Sits (ws is : List ℕ) (k : ℕ) : Type 0 where

@@ -3,8 +3,8 @@
 // Rules 1 and 4 walk all records in one order, by first point (`order`), each with a small array of what comes next. The others look at one record at a time, in tables that ascend.
 #![tactic(auto)]
 
-mod entries;
-mod order;
+pub mod entries;
+pub mod order;
 pub mod rule1;
 pub mod rule2;
 pub mod rule3;
@@ -12,17 +12,3 @@ pub mod rule4;
 pub mod rule5;
 pub mod rule6;
 pub mod rule7;
-
-// Whose turn it is in the order: a record, or nobody's any more.
-#[derive(Clone, Copy)]
-pub enum Turn {
-    Over,
-    Of(usize),
-}
-
-// What the slot records come to: rule 6 broken, or the greatest slot plus size.
-#[derive(Clone, Copy)]
-pub enum Put {
-    Broken,
-    Top(u32),
-}

@@ -6,12 +6,8 @@ ghost use Rattle.checker_rules.specs.Tiles.{Tiling};
 ghost use Rattle.checker_rules.specs.Housed.{Pointed, Lowest, Highest, Whole, FitsIn, Row, Rows, Fits};
 ghost use Rattle.checker_rules.specs.Decides.{Decides2};
 
-use crate::{entries, rule1};
-use words::read;
-
-const IN_REGISTER: u16 = 1;
-// An instruction stands above 17 bits of a mention's word.
-const INSTRUCTION_UNIT: u64 = 131072;
+use crate::entries::{self, IN_REGISTER, INSTRUCTION_UNIT, Seats};
+use words::{Range, Record, read};
 
 fn lowest(w: u32) -> u32
     requires { Pointed w }
@@ -19,13 +15,7 @@ fn lowest(w: u32) -> u32
 {
     let m = read::mention_in(w);
     let i = m.instruction as u32;
-    if m.uses {
-        return 2 * i;
-    }
-    if m.mods {
-        return 2 * i;
-    }
-    2 * i + 1
+    if m.uses || m.mods { 2 * i } else { 2 * i + 1 }
 }
 
 fn highest(w: u32) -> u32
@@ -34,91 +24,56 @@ fn highest(w: u32) -> u32
 {
     let m = read::mention_in(w);
     let i = m.instruction as u32;
-    if m.mods {
-        return 2 * i + 1;
-    }
-    if m.defs {
-        return 2 * i + 1;
-    }
-    2 * i
+    if m.mods || m.defs { 2 * i + 1 } else { 2 * i }
 }
 
-fn whole(kind: u16, first: u16, last: u16, w: u32) -> bool
-    requires { (Pointed w) × (first ≤ last) }
-    ensures { Says result (Whole kind first last w) }
+// Of a record and a mention's word.
+fn whole(r: Record, w: u32) -> bool
+    requires { (Pointed w) × (r.first ≤ r.last) }
+    ensures { Says result (Whole r.kind r.first r.last w) }
 {
     let a = lowest(w);
     let b = highest(w);
-    let f = first as u32;
-    let l = last as u32;
-    if l < a {
+    let f = r.first as u32;
+    let l = r.last as u32;
+    if l < a || b < f {
         return true;
     }
-    if b < f {
-        return true;
-    }
-    if kind != IN_REGISTER {
-        return false;
-    }
-    if a < f {
-        return false;
-    }
-    if l < b {
-        return false;
-    }
-    true
+    r.kind == IN_REGISTER && f <= a && b <= l
 }
 
-fn fits_in(mentions: &[u32], lo: usize, hi: usize, kind: u16, first: u16, last: u16) -> bool
-    requires { (Row mentions.now lo hi) × (first ≤ last) }
-    ensures { Says result (FitsIn mentions.now lo hi kind first last) }
+// Of a record and the mentions of a range.
+fn fits_in(mentions: &[u32], range: Range, r: Record) -> bool
+    requires { (Row mentions.now range.index (range.index + range.count)) × (r.first ≤ r.last) }
+    ensures { Says result (FitsIn mentions.now range.index (range.index + range.count) r.kind r.first r.last) }
 {
-    let x = first as u64 / 2 * INSTRUCTION_UNIT;
-    let mut m = seek::lower(mentions, lo, hi, x);
-    while m < hi {
+    let x = r.first as u64 / 2 * INSTRUCTION_UNIT;
+    let to = entries::end_of(range);
+    let from = seek::lower(mentions, range.index as usize, to, x);
+    for m in from..to {
         let w = mentions[m];
-        let a = lowest(w);
-        let l = last as u32;
-        if l < a {
+        if (r.last as u32) < lowest(w) {
             return true;
         }
-        if !whole(kind, first, last, w) {
+        if !whole(r, w) {
             return false;
         }
-        m += 1;
     }
     true
 }
 
-fn fits(words: &[u32], count: usize, intervals: &[u32], mentions: &[u32], k: usize) -> bool
-    requires tables { (Rows intervals.now mentions.now) × (Tiling words.now count intervals.now) }
-    requires place { (k < count) × (2 * count ≤ length words.now) }
-    ensures { Says result (Fits words.now intervals.now mentions.now k) }
+fn fits(seats: Seats, mentions: &[u32], k: usize) -> bool
+    requires tables { (Rows seats.intervals.now mentions.now) × (Tiling seats.records.words.now seats.records.count seats.intervals.now) }
+    requires place { k < seats.records.count }
+    ensures { Says result (Fits seats.entry.records.words.now seats.entry.intervals.now mentions.now k) }
 {
-    let r = rule1::seated(words, count, intervals, k);
-    let i = entries::interval_at(intervals, r.interval as usize);
-    let g = i.mentions;
-    fits_in(
-        mentions,
-        g.index as usize,
-        entries::end_of(g),
-        r.kind,
-        r.first,
-        r.last,
-    )
+    let r = seats.record(k);
+    fits_in(mentions, seats.interval(r).mentions, r)
 }
 
-pub fn rule2(words: &[u32], count: usize, intervals: &[u32], mentions: &[u32]) -> bool
-    requires tables { (Rows intervals.now mentions.now) × (Tiling words.now count intervals.now) }
-    requires room { 2 * count ≤ length words.now }
-    ensures { Decides2 words.now count intervals.now mentions.now result }
+pub fn rule2(seats: Seats, mentions: &[u32]) -> bool
+    requires { (Rows seats.intervals.now mentions.now) × (Tiling seats.records.words.now seats.records.count seats.intervals.now) }
+    ensures { Decides2 seats.entry.records.words.now seats.entry.records.count seats.entry.intervals.now mentions.now result }
 {
-    let mut k = 0;
-    while k < count {
-        if !fits(words, count, intervals, mentions, k) {
-            return false;
-        }
-        k += 1;
-    }
-    true
+    (0..seats.records.count).all(|k| fits(seats, mentions, k))
 }

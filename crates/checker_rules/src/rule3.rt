@@ -1,56 +1,34 @@
 // Rule 3: registers are of the class, never scratch.
 ghost use Rattle.std.specs.Prelude.{◌≡◌, ℕ, ◌+◌, ◌*◌, ◌<◌, ◌≤◌, length, get_or};
 ghost use Rattle.checker_rules.specs.Says.{Says};
-ghost use Rattle.checker_rules.specs.Tiles.{Loose};
 ghost use Rattle.checker_rules.specs.Usable.{Usable, Suits, Classes};
 ghost use Rattle.checker_rules.specs.Decides.{Decides3};
 
-use crate::{entries, rule1};
+use crate::entries::{IN_REGISTER, Seats};
 use words::read;
-
-const IN_REGISTER: u16 = 1;
 
 fn usable(w: u32, number: u16) -> bool
     ensures { Says result (Usable w number) }
 {
     let c = read::class_in(w);
-    if number < c.first {
-        return false;
-    }
-    if c.first + c.count <= number {
-        return false;
-    }
-    if number == c.scratch {
-        return false;
-    }
-    true
+    c.first <= number && number < c.first + c.count && number != c.scratch
 }
 
-fn suits(words: &[u32], count: usize, intervals: &[u32], classes: &[u32], k: usize) -> bool
-    requires tables { (Classes intervals.now classes.now) × (Loose words.now count intervals.now) }
-    requires place { (k < count) × (2 * count ≤ length words.now) }
-    ensures { Says result (Suits words.now intervals.now classes.now k) }
+fn suits(seats: Seats, classes: &[u32], k: usize) -> bool
+    requires { (Classes seats.intervals.now classes.now) × (k < seats.records.count) }
+    ensures { Says result (Suits seats.entry.records.words.now seats.entry.intervals.now classes.now k) }
 {
-    let r = rule1::seated(words, count, intervals, k);
+    let r = seats.record(k);
     if r.kind != IN_REGISTER {
         return true;
     }
-    let i = entries::interval_at(intervals, r.interval as usize);
-    let c = i.class as usize;
+    let c = seats.interval(r).class as usize;
     usable(classes[c], r.number)
 }
 
-pub fn rule3(words: &[u32], count: usize, intervals: &[u32], classes: &[u32]) -> bool
-    requires tables { (Classes intervals.now classes.now) × (Loose words.now count intervals.now) }
-    requires room { 2 * count ≤ length words.now }
-    ensures { Decides3 words.now count intervals.now classes.now result }
+pub fn rule3(seats: Seats, classes: &[u32]) -> bool
+    requires { Classes seats.intervals.now classes.now }
+    ensures { Decides3 seats.entry.records.words.now seats.entry.records.count seats.entry.intervals.now classes.now result }
 {
-    let mut k = 0;
-    while k < count {
-        if !suits(words, count, intervals, classes, k) {
-            return false;
-        }
-        k += 1;
-    }
-    true
+    (0..seats.records.count).all(|k| suits(seats, classes, k))
 }

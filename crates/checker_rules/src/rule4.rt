@@ -2,14 +2,13 @@
 // In the order of first points each register record must find its register free at its first point; it is free again after the record's last.
 ghost use Rattle.std.specs.Prelude.{◌≡◌, ℕ, ◌+◌, ◌*◌, ◌<◌, ◌≤◌, length, get_or};
 ghost use Rattle.checker_rules.specs.Says.{Says};
-ghost use Rattle.checker_rules.specs.Order.{Empty, Linked, Below};
+ghost use Rattle.checker_rules.specs.Order.{Empty};
 ghost use Rattle.checker_rules.specs.Lanes.{Lanes, Registers, Entered};
 ghost use Rattle.checker_rules.specs.Decides.{Decides4};
 
-use crate::{Turn, entries, order};
+use crate::entries::IN_REGISTER;
+use crate::order::Order;
 use words::Record;
-
-const IN_REGISTER: u16 = 1;
 
 const MOST_REGISTERS: usize = 64;
 
@@ -22,8 +21,7 @@ fn enter(free: &mut [u32], r: Record) -> bool
         return true;
     }
     let q = r.number as usize;
-    let f = r.first as u32;
-    if f < free[q] {
+    if (r.first as u32) < free[q] {
         return false;
     }
     free[q] = r.last as u32 + 1;
@@ -31,39 +29,25 @@ fn enter(free: &mut [u32], r: Record) -> bool
 }
 
 // In the order of first points, each register record finds its register free.
-fn entered(
-    words: &[u32],
-    count: usize,
-    head: &[u16],
-    next: &[u16],
-    points: usize,
-    free: &mut [u32],
-) -> bool
-    requires chains { Linked words.now count head.now next.now }
-    requires below { Below words.now count points }
-    requires registers { Registers words.now count 64 }
+fn entered(order: Order, free: &mut [u32]) -> bool
+    requires registers { Registers order.records.words.now order.records.count 64 }
     requires empty { (64 ≤ length free.old) × Empty free.old }
-    ensures { Says result (Lanes words.now count) }
+    ensures { Says result (Lanes order.entry.records.words.now order.entry.records.count) }
 {
-    let mut turn = order::from(words, count, head, next, points, 0);
-    loop {
-        let Turn::Of(k) = turn else {
-            return true;
-        };
-        let r = entries::record_at(words, k);
-        if !enter(free, r) {
+    let mut turn = order.from(0);
+    while let Some(k) = turn {
+        if !enter(free, order.records.record(k)) {
             return false;
         }
-        turn = order::following(words, count, head, next, points, k);
+        turn = order.following(k);
     }
+    true
 }
 
-pub fn rule4(words: &[u32], count: usize, head: &[u16], next: &[u16], points: usize) -> bool
-    requires chains { Linked words.now count head.now next.now }
-    requires below { Below words.now count points }
-    requires registers { Registers words.now count 64 }
-    ensures { Decides4 words.now count result }
+pub fn rule4(order: Order) -> bool
+    requires { Registers order.records.words.now order.records.count 64 }
+    ensures { Decides4 order.entry.records.words.now order.entry.records.count result }
 {
     let mut free = [0u32; MOST_REGISTERS];
-    entered(words, count, head, next, points, &mut free)
+    entered(order, &mut free)
 }

@@ -6,63 +6,39 @@ ghost use Rattle.checker_rules.specs.Lanes.{Registers};
 ghost use Rattle.checker_rules.specs.Fixed.{Run, Runs, Meets, Clear};
 ghost use Rattle.checker_rules.specs.Decides.{Decides5};
 
-use crate::entries;
-use words::read;
+use crate::entries::{self, IN_REGISTER, Records};
+use words::{Range, Record, read};
 
-const IN_REGISTER: u16 = 1;
 // The first point stands above 16 bits of a fragment's word.
 const FIRST_UNIT: u64 = 65536;
 
-fn meets(fragments: &[u32], lo: usize, hi: usize, first: u16, last: u16) -> bool
-    requires { (Run fragments.now lo hi) × (first ≤ last) }
-    ensures { Says result (Meets fragments.now lo hi first last) }
+// Of a record and the fragments of a range.
+fn meets(fragments: &[u32], range: Range, r: Record) -> bool
+    requires { (Run fragments.now range.index (range.index + range.count)) × (r.first ≤ r.last) }
+    ensures { Says result (Meets fragments.now range.index (range.index + range.count) r.first r.last) }
 {
-    let x = (last as u64 + 1) * FIRST_UNIT;
-    let j = seek::lower(fragments, lo, hi, x);
-    if j <= lo {
-        return false;
-    }
-    let f = read::fragment_in(fragments[j - 1]);
-    if f.last < first {
-        return false;
-    }
-    true
+    let x = (r.last as u64 + 1) * FIRST_UNIT;
+    let from = range.index as usize;
+    let j = seek::lower(fragments, from, entries::end_of(range), x);
+    from < j && r.first <= read::fragment_in(fragments[j - 1]).last
 }
 
-fn clear(words: &[u32], count: usize, registers: &[u32], fragments: &[u32], k: usize) -> bool
-    requires tables { (Runs registers.now fragments.now) × (Registers words.now count (length registers.now)) }
-    requires place { (k < count) × (2 * count ≤ length words.now) }
-    ensures { Says result (Clear words.now registers.now fragments.now k) }
+fn clear(records: Records, registers: &[u32], fragments: &[u32], k: usize) -> bool
+    requires tables { (Runs registers.now fragments.now) × (Registers records.words.now records.count (length registers.now)) }
+    requires place { k < records.count }
+    ensures { Says result (Clear records.entry.words.now registers.now fragments.now k) }
 {
-    let r = entries::record_at(words, k);
+    let r = records.record(k);
     if r.kind != IN_REGISTER {
         return true;
     }
     let q = r.number as usize;
-    let g = read::range_in(registers[q]);
-    if meets(
-        fragments,
-        g.index as usize,
-        entries::end_of(g),
-        r.first,
-        r.last,
-    ) {
-        return false;
-    }
-    true
+    !meets(fragments, read::range_in(registers[q]), r)
 }
 
-pub fn rule5(words: &[u32], count: usize, registers: &[u32], fragments: &[u32]) -> bool
-    requires tables { (Runs registers.now fragments.now) × (Registers words.now count (length registers.now)) }
-    requires room { 2 * count ≤ length words.now }
-    ensures { Decides5 words.now count registers.now fragments.now result }
+pub fn rule5(records: Records, registers: &[u32], fragments: &[u32]) -> bool
+    requires { (Runs registers.now fragments.now) × (Registers records.words.now records.count (length registers.now)) }
+    ensures { Decides5 records.entry.words.now records.entry.count registers.now fragments.now result }
 {
-    let mut k = 0;
-    while k < count {
-        if !clear(words, count, registers, fragments, k) {
-            return false;
-        }
-        k += 1;
-    }
-    true
+    (0..records.count).all(|k| clear(records, registers, fragments, k))
 }

@@ -1,34 +1,20 @@
 // Rule 6: a virtual register has one slot, a multiple of its size; slot extents of two do not meet; the total is the greatest slot plus size, or 0.
-// `slots` has each interval's slot plus one, 0 where it has none yet; `owner` has for each slot unit the interval that has it plus one, 0 where nobody has. Only this file knows that.
+// `slots` has each interval's slot plus one, 0 where it has none yet; `owner` has for each slot unit the interval that has it plus one, 0 where nobody has. Only this file knows that. An `Option` in each entry would take twice the room, of memory that is fixed.
 ghost use Rattle.std.specs.Prelude.{◌≡◌, ℕ, ◌+◌, ◌*◌, ◌<◌, ◌≤◌, length, get_or};
 ghost use Rattle.words.specs.Packed.{interval_count};
 ghost use Rattle.checker_rules.specs.Says.{Says};
 ghost use Rattle.checker_rules.specs.Order.{Empty};
-ghost use Rattle.checker_rules.specs.Tiles.{Loose};
 ghost use Rattle.checker_rules.specs.Slots.{Sized, Placed, Unowned, Owned, PutBy};
 ghost use Rattle.checker_rules.specs.Decides.{Decides6};
 
-use crate::{Put, entries, rule1};
-
-const IN_SLOT: u16 = 2;
-
-const MOST_INTERVALS: usize = 4096;
+use crate::entries::{IN_SLOT, MOST_INTERVALS, Seats};
 
 // The size that a logarithm below 4 stands for: 1, 2, 4, 8.
 fn size_of(log: u16) -> u32
     requires { log < 4 }
     ensures { Sized log result }
 {
-    if log == 0 {
-        return 1;
-    }
-    if log == 1 {
-        return 2;
-    }
-    if log == 2 {
-        return 4;
-    }
-    8
+    1 << log
 }
 
 // Nobody has a unit of a..b.
@@ -36,14 +22,7 @@ fn unowned(owner: &[u16], a: usize, b: usize) -> bool
     requires { b ≤ length owner.now }
     ensures { Says result (Unowned owner.now a b) }
 {
-    let mut u = a;
-    while u < b {
-        if owner[u] != 0 {
-            return false;
-        }
-        u += 1;
-    }
-    true
+    (a..b).all(|u| owner[u] == 0)
 }
 
 // The units of a..b get this entry.
@@ -51,107 +30,67 @@ fn own(owner: &mut [u16], a: usize, b: usize, entry: u16)
     requires { (a ≤ b) × (b ≤ length owner.old) }
     ensures { Owned owner.old owner.new a b entry }
 {
-    let mut u = a;
-    while u < b {
-        owner[u] = entry;
-        u += 1;
-    }
+    owner[a..b].fill(entry);
 }
 
 // The table of owners, empty again: the point table of the order serves, once rule 4 is done with it.
 pub fn disown(owner: &mut [u16])
     ensures { Empty owner.new }
 {
-    let all = owner.len();
-    own(owner, 0, all, 0);
+    owner.fill(0);
 }
 
-// One record: a slot of an interval that has none yet takes its units.
-fn settle(
-    words: &[u32],
-    count: usize,
-    intervals: &[u32],
-    k: usize,
-    slots: &mut [u32],
-    owner: &mut [u16],
-    top: u32,
-) -> Put
-    requires room { (interval_count intervals.now ≤ length slots.old) × (65544 ≤ length owner.old) × (interval_count intervals.now ≤ 4096) }
-    requires place { (k < count) × (2 * count ≤ length words.now) × (Loose words.now count intervals.now) }
-    requires placed { Placed words.now k intervals.now slots.old owner.old top }
-    ensures { PutBy words.now count (k + 1) intervals.now slots.new owner.new result }
+// Record k, where those before it reach `top`: a slot of an interval that has none yet takes its units. The greatest slot plus size, or nothing where the record breaks the rule.
+fn settle(seats: Seats, k: usize, slots: &mut [u32], owner: &mut [u16], top: u32) -> Option<u32>
+    requires room { (interval_count seats.intervals.now ≤ length slots.old) × (65544 ≤ length owner.old) × (interval_count seats.intervals.now ≤ 4096) }
+    requires place { k < seats.records.count }
+    requires placed { Placed seats.records.words.now k seats.intervals.now slots.old owner.old top }
+    ensures { PutBy seats.entry.records.words.now seats.entry.records.count (k + 1) seats.entry.intervals.now slots.new owner.new result }
 {
-    let r = rule1::seated(words, count, intervals, k);
+    let r = seats.record(k);
     if r.kind != IN_SLOT {
-        return Put::Top(top);
+        return Some(top);
     }
     let v = r.interval as usize;
     let s = r.number as u32;
-    let i = entries::interval_at(intervals, v);
-    let z = size_of(i.log_size);
+    let z = size_of(seats.interval(r).log_size);
     if s % z != 0 {
-        return Put::Broken;
+        return None;
     }
     let old = slots[v];
     if old != 0 {
-        if old != s + 1 {
-            return Put::Broken;
-        }
-        return Put::Top(top);
+        return if old == s + 1 { Some(top) } else { None };
     }
     let a = s as usize;
     let e = s + z;
     let b = e as usize;
     if !unowned(&owner[..], a, b) {
-        return Put::Broken;
+        return None;
     }
     own(owner, a, b, (v + 1) as u16);
     slots[v] = s + 1;
-    if top < e {
-        return Put::Top(e);
-    }
-    Put::Top(top)
+    Some(top.max(e))
 }
 
-fn settled(
-    words: &[u32],
-    count: usize,
-    intervals: &[u32],
-    slots: &mut [u32],
-    owner: &mut [u16],
-) -> Put
-    requires room { (interval_count intervals.now ≤ length slots.old) × (65544 ≤ length owner.old) × (interval_count intervals.now ≤ 4096) }
-    requires place { (2 * count ≤ length words.now) × (Loose words.now count intervals.now) }
+// The same of all records.
+fn settled(seats: Seats, slots: &mut [u32], owner: &mut [u16]) -> Option<u32>
+    requires room { (interval_count seats.intervals.now ≤ length slots.old) × (65544 ≤ length owner.old) × (interval_count seats.intervals.now ≤ 4096) }
     requires empty { (Empty slots.old) × (Empty owner.old) }
-    ensures { PutBy words.now count count intervals.now slots.new owner.new result }
+    ensures { PutBy seats.entry.records.words.now seats.entry.records.count seats.entry.records.count seats.entry.intervals.now slots.new owner.new result }
 {
-    let mut top: u32 = 0;
-    let mut k = 0;
-    while k < count {
-        let put = settle(words, count, intervals, k, slots, owner, top);
-        let Put::Top(t) = put else {
-            return Put::Broken;
-        };
-        top = t;
-        k += 1;
+    let mut top = 0;
+    for k in 0..seats.records.count {
+        top = settle(seats, k, slots, owner, top)?;
     }
-    Put::Top(top)
+    Some(top)
 }
 
 // `owner` comes empty, and is longer than any slot plus size.
-pub fn rule6(words: &[u32], count: usize, intervals: &[u32], owner: &mut [u16], total: u32) -> bool
-    requires room { (65544 ≤ length owner.old) × (interval_count intervals.now ≤ 4096) }
-    requires place { (2 * count ≤ length words.now) × (Loose words.now count intervals.now) }
+pub fn rule6(seats: Seats, owner: &mut [u16], total: u32) -> bool
+    requires room { (65544 ≤ length owner.old) × (interval_count seats.intervals.now ≤ 4096) }
     requires empty { Empty owner.old }
-    ensures { Decides6 words.now count intervals.now total result }
+    ensures { Decides6 seats.entry.records.words.now seats.entry.records.count seats.entry.intervals.now total result }
 {
     let mut slots = [0u32; MOST_INTERVALS];
-    let put = settled(words, count, intervals, &mut slots, owner);
-    let Put::Top(top) = put else {
-        return false;
-    };
-    if top != total {
-        return false;
-    }
-    true
+    settled(seats, &mut slots, owner) == Some(total)
 }

@@ -5,7 +5,7 @@ use Rattle.checker_rules.proofs.OrderLaws.{left}
 use Rattle.checker_rules.proofs.rule1.joined.Given as goal
 
 abbrev pub invariant-loop-turn : goal.invariant-loop-turn
-invariant-loop-turn l = Joining l.words l.count l.intervals l.initial.expect l.expect l.turn
+invariant-loop-turn l = Joining l.order.records.words.now l.order.records.count l.intervals l.expect l.turn
 
 abbrev pub decreases-loop-turn : goal.decreases-loop-turn
-decreases-loop-turn l = left l.words l.turn
+decreases-loop-turn l = left l.order.records.words.now l.turn

@@ -1,12 +1,8 @@
 -- `rule1::starts` meets its contract: the intervals passed have their start.
 -- Assumes nothing.
-use Rattle.checker_rules.proofs.TilesLaws.{Starting}
-use Rattle.words.specs.Packed.{interval_count}
-use Prim.Native.Nat.{◌-◌}
+use Rattle.std.proofs.Common.{◌≡◌, ℕ, ◌<◌, get_or}
+use Rattle.checker_rules.specs.Entries.{start_of}
 use Rattle.checker_rules.proofs.rule1.starts.Given as goal
 
 abbrev pub invariant-loop-v : goal.invariant-loop-v
-invariant-loop-v l = Starting l.intervals l.initial.expect l.expect l.v
-
-abbrev pub decreases-loop-v : goal.decreases-loop-v
-decreases-loop-v l = interval_count l.intervals - l.v
+invariant-loop-v l = (u : ℕ) → u < l.v → get_or l.expect u 0 ≡ start_of l.intervals u

@@ -5,7 +5,7 @@ use Rattle.checker_rules.proofs.OrderLaws.{left}
 use Rattle.checker_rules.proofs.rule4.entered.Given as goal
 
 abbrev pub invariant-loop-turn : goal.invariant-loop-turn
-invariant-loop-turn l = Entering l.words l.count l.initial.free l.free l.turn
+invariant-loop-turn l = Entering l.order.records.words.now l.order.records.count l.free l.turn
 
 abbrev pub decreases-loop-turn : goal.decreases-loop-turn
-decreases-loop-turn l = left l.words l.turn
+decreases-loop-turn l = left l.order.records.words.now l.turn

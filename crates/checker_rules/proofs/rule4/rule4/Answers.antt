@@ -5,8 +5,8 @@ use Rattle.checker_rules.proofs.OrderLaws.{empty_zeros}
 use borrow.Author.Rules.{rules}
 use Rattle.checker_rules.proofs.rule4.rule4.Goals as goal
 
-pub entered-requires : goal.entered-requires
-entered-requires c = record { chains = c.requires.chains; below = c.requires.below; registers = c.requires.registers; empty = (search rules, empty_zeros 64) }
+pub entered-requires-clause-empty : goal.entered-requires-clause-empty
+entered-requires-clause-empty c = (search rules, empty_zeros 64)
 
 pub returns : goal.returns
 returns c = search decides_4

@@ -1,18 +1,11 @@
--- `rule5::rule5` meets its contract: all records passed so far are clear.
+-- `rule5::rule5` meets its contract: `all` says that every record is clear.
 -- Assumes nothing.
-use Rattle.checker_rules.proofs.FixedLaws.{rule5_breaks, rule5_holds}
-use Rattle.checker_rules.proofs.SaysLaws.{each_starts, each_more, each_breaks, each_ends}
+use Rattle.checker_rules.proofs.AllLaws.{all_below}
+use Rattle.checker_rules.proofs.BridgeLaws.{decides_5}
 use Rattle.checker_rules.specs.Fixed.{Clear}
+use mathlib.Core.Path.{refl}
+use borrow.Author.Rules.{rules}
 use Rattle.checker_rules.proofs.rule5.rule5.Goals as goal
 
-pub loop-k-init : goal.loop-k-init
-loop-k-init c = each_starts _ _
-
-pub returns-then-not-clear : goal.returns-then-not-clear
-returns-then-not-clear c = rule5_breaks _ _ _ _ (each_breaks (λ j. Clear _ _ _ j) _ _ _ c.loop-k-test.true c.clear.ensures c.if-not-clear.true-raw)
-
-pub loop-k-preserved : goal.loop-k-preserved
-loop-k-preserved c = search each_more
-
 pub returns : goal.returns
-returns c = rule5_holds _ _ _ _ (each_ends _ _ _ c.loop-k.invariant c.loop-k-test.false)
+returns c = decides_5 _ _ _ _ _ (all_below _ _ _ _ (λ k. Clear c.args.records.words.now c.args.registers.now c.args.fragments.now k) c.all.ensures.ran refl (λ k b f' e. search rules))

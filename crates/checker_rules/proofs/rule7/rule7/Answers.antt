@@ -1,18 +1,11 @@
--- `rule7::rule7` meets its contract: all records passed so far are safe.
+-- `rule7::rule7` meets its contract: `all` says that every record is safe.
 -- Assumes nothing.
-use Rattle.checker_rules.proofs.SafeLaws.{rule7_breaks, rule7_holds}
-use Rattle.checker_rules.proofs.SaysLaws.{each_starts, each_more, each_breaks, each_ends}
+use Rattle.checker_rules.proofs.AllLaws.{all_below}
+use Rattle.checker_rules.proofs.BridgeLaws.{decides_7}
 use Rattle.checker_rules.specs.Safe.{Safe}
+use mathlib.Core.Path.{refl}
+use borrow.Author.Rules.{rules}
 use Rattle.checker_rules.proofs.rule7.rule7.Goals as goal
 
-pub loop-k-init : goal.loop-k-init
-loop-k-init c = each_starts _ _
-
-pub returns-then-not-safe_at : goal.returns-then-not-safe_at
-returns-then-not-safe_at c = rule7_breaks _ _ _ _ _ (each_breaks (λ j. Safe _ _ _ _ j) _ _ _ c.loop-k-test.true c.safe_at.ensures c.if-not-safe_at.true-raw)
-
-pub loop-k-preserved : goal.loop-k-preserved
-loop-k-preserved c = search each_more
-
 pub returns : goal.returns
-returns c = rule7_holds _ _ _ _ _ (each_ends _ _ _ c.loop-k.invariant c.loop-k-test.false)
+returns c = decides_7 _ _ _ _ _ _ (all_below _ _ _ _ (λ k. Safe c.args.seats.records.words.now c.args.seats.intervals.now c.args.mentions.now c.args.safepoints.now k) c.all.ensures.ran refl (λ k b f' e. search rules))

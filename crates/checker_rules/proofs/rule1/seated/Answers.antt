@@ -1,7 +1,0 @@
--- `rule1::seated` meets its contract: a record that sits names an interval.
--- Assumes nothing.
-use Rattle.checker_rules.proofs.TilesLaws.{seated}
-use Rattle.checker_rules.proofs.rule1.seated.Goals as goal
-
-pub returns : goal.returns
-returns c = search seated

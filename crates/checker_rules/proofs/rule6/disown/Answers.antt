@@ -1,7 +1,0 @@
--- `rule6::disown` meets its contract: every unit gets entry 0.
--- Assumes nothing.
-use Rattle.checker_rules.proofs.SlotsLaws.{disowned}
-use Rattle.checker_rules.proofs.rule6.disown.Goals as goal
-
-pub returns : goal.returns
-returns c = search disowned

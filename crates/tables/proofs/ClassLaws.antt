@@ -16,7 +16,7 @@ use Rattle.words.specs.Packed.{class_in, class_at}
 use Rattle.words.proofs.Field.{bits_lt}
 use Rattle.words.specs.declared.Class.{Class}
 use Rattle.rules.specs.Sound.{count_sum, scratch_good, class_good}
-use Rattle.tables.specs.Given.{class_tables}
+use Rattle.rules.specs.Tables.{Tables}
 use Rattle.tables.specs.Entries.{Summed}
 
 -- has-scratch exactly if count > 0
@@ -47,9 +47,9 @@ last_sum cs k n h = go (dec_lt (k + 1) (length cs))
     go (no l) = rw (all_counts cs k h (omega arith))
 
 -- the test of class k, by the running sum
-pub class_good_by : (cs rs : List ℕ) (k sum : ℕ) (c : Class) (s : Bool) → k < length cs → Summed cs k sum → c ≡ class_at cs k → s ≡ scratch_good c
-    → (eqb c.spare 0 && eqb c.first sum && s && (ltb (k + 1) (length cs) || eqb (sum + c.count) (length rs))) ≡ class_good (class_tables cs rs) k
-class_good_by cs rs k sum c s h m e f = rw (f, e, m.is, last_sum cs k (length rs) h)
+pub class_good_by : (T : Tables) (k sum : ℕ) (c : Class) (s : Bool) → k < length T.classes → Summed T.classes k sum → c ≡ class_at T.classes k → s ≡ scratch_good c
+    → (eqb c.spare 0 && eqb c.first sum && s && (ltb (k + 1) (length T.classes) || eqb (sum + c.count) (length T.registers))) ≡ class_good T k
+class_good_by T k sum c s h m e f = rw (f, e, m.is, last_sum T.classes k (length T.registers) h)
 
 -- the running sum
 pub sum_starts : (cs : List ℕ) → Summed cs 0 0

@@ -41,40 +41,20 @@ unless_bad t k e = simp e
 pub else_bad : (a b : Option ℕ) (k : ℕ) → a ≡ Some k → Some k ≡ or_else a b
 else_bad a b k e = simp e
 
--- a walk of the n entries from lo to hi
-module _ (f : ℕ → Option ℕ) (lo n hi : ℕ) where
-  pub walk_starts : hi ≡ lo + n → Walked f lo n hi lo
-  walk_starts e =
-      let d : hi - lo ≡ n = omega arith in
-      record { ends = e; from = omega arith; upto = omega arith; rest = rw d }
+-- what f finds first from i to hi: past an entry where it finds none,
+pub first_more : (f : ℕ → Option ℕ) (i hi : ℕ) → i < hi → f i ≡ None → first f i (hi - i) ≡ first f (i + 1) (hi - (i + 1))
+unfolding first
+first_more f i hi h e = let d : hi - i ≡ suc (hi - (i + 1)) = omega arith in rw (d, e, add-one i)
 
-  -- it goes on past a clean entry,
-  pub walk_more : (i : ℕ) → Walked f lo n hi i → i < hi → f i ≡ None → Walked f lo n hi (i + 1)
-  unfolding first
-  walk_more i w h e =
-      let d : hi - i ≡ suc (hi - (i + 1)) = omega arith in
-      let s : first f i (hi - i) ≡ first f (i + 1) (hi - (i + 1)) = rw (d, e, add-one i) in
-      record { ends = w.ends; from = omega arith; upto = omega arith; rest = w.rest ∙ s }
+-- at the first where it finds one,
+pub first_here : (f : ℕ → Option ℕ) (i hi k : ℕ) → i < hi → f i ≡ Some k → first f i (hi - i) ≡ Some k
+unfolding first
+first_here f i hi k h e = let d : hi - i ≡ suc (hi - (i + 1)) = omega arith in rw (d, e)
 
-  -- stops at the first bad one,
-  pub walk_stops : (i k : ℕ) → Walked f lo n hi i → i < hi → f i ≡ Some k → Some k ≡ first f lo n
-  unfolding first
-  walk_stops i k w h e =
-      let d : hi - i ≡ suc (hi - (i + 1)) = omega arith in
-      let s : first f i (hi - i) ≡ Some k = rw (d, e) in
-      sym (w.rest ∙ s)
-
-  -- or ends
-  pub walk_ends : (i : ℕ) → Walked f lo n hi i → hi ≤ i → None ≡ first f lo n
-  unfolding first
-  walk_ends i w h =
-      let d : hi - i ≡ 0 = omega arith in
-      let s : first f i (hi - i) ≡ None = rw d in
-      sym (w.rest ∙ s)
-
--- a walk of a whole table
-pub whole_starts : (f : ℕ → Option ℕ) (n : ℕ) → Walked f 0 n n 0
-whole_starts f n = walk_starts f 0 n n (omega arith)
+-- and at the end
+pub first_none : (f : ℕ → Option ℕ) (i hi : ℕ) → hi ≤ i → first f i (hi - i) ≡ None
+unfolding first
+first_none f i hi h = let d : hi - i ≡ 0 = omega arith in rw d
 
 -- an entry's find by its test, computed as t; code turns back where `not t`
 pub test_clean : (t b : Bool) (k : ℕ) → t ≡ b → not t ≡ false → bad_unless b k ≡ None

@@ -7,10 +7,10 @@ pub loop-r-init : goal.loop-r-init
 loop-r-init c = search whole_starts
 
 pub returns-then-not-register_good : goal.returns-then-not-register_good
-returns-then-not-register_good c = search (walk_stops, test_bad)
+returns-then-not-register_good c = search (walk_stops, test_bad, c.if-not-register_good.ensures)
 
 pub loop-r-preserved : goal.loop-r-preserved
-loop-r-preserved c = search (walk_more, test_clean)
+loop-r-preserved c = search (walk_more, test_clean, c.if-not-register_good.ensures)
 
 pub returns : goal.returns
 returns c = search walk_ends

@@ -7,10 +7,10 @@ pub loop-v-init : goal.loop-v-init
 loop-v-init c = search whole_starts
 
 pub returns-then-not-interval_good : goal.returns-then-not-interval_good
-returns-then-not-interval_good c = search (walk_stops, test_bad)
+returns-then-not-interval_good c = search (walk_stops, test_bad, c.if-not-interval_good.ensures)
 
 pub loop-v-preserved : goal.loop-v-preserved
-loop-v-preserved c = search (walk_more, test_clean)
+loop-v-preserved c = search (walk_more, test_clean, c.if-not-interval_good.ensures)
 
 pub returns : goal.returns
 returns c = search walk_ends

@@ -7,10 +7,10 @@ pub loop-j-init : goal.loop-j-init
 loop-j-init c = search walk_starts
 
 pub returns-then-not-safepoint_good : goal.returns-then-not-safepoint_good
-returns-then-not-safepoint_good c = search (walk_stops, test_bad)
+returns-then-not-safepoint_good c = search (walk_stops, test_bad, c.if-not-safepoint_good.ensures)
 
 pub loop-j-preserved : goal.loop-j-preserved
-loop-j-preserved c = search (walk_more, test_clean)
+loop-j-preserved c = search (walk_more, test_clean, c.if-not-safepoint_good.ensures)
 
 pub returns : goal.returns
 returns c = search walk_ends

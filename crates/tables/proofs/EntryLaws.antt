@@ -23,9 +23,8 @@ use Rattle.words.specs.declared.Mention.{Mention}
 use Rattle.rules.specs.Uses.{points_in}
 use Rattle.rules.specs.Sound.{every, range_end, end_before, interval_good, ascends, mention_good, first, bad_unless, fragments_good, register_good, bad_mention, bad_interval, bad_fixed, leftovers, or_else}
 use Rattle.tables.specs.declared.Ends.{Ends}
-use Rattle.tables.proofs.WalkLaws.{walk_stops}
 use Rattle.rules.specs.Tables.{Tables}
-use Rattle.tables.specs.Entries.{Walked, EndsBefore, Ranged, Passed, range_fits, extent_good, mention_find, between, fragment_good}
+use Rattle.tables.specs.Entries.{EndsBefore, Ranged, Passed, range_fits, extent_good, mention_find, between, fragment_good}
 
 -- where the range before range k ends
 end_before_lem : (ranges : ℕ → Range) (k : ℕ) → (k ≡ 0 → ⊥) → end_before ranges k ≡ range_end (ranges (k - 1))
@@ -89,13 +88,6 @@ pub mention_good_by : (T : Tables) (i : Interval) (j : ℕ) (m : Mention) (x y :
     → m ≡ mention_in (get_or T.mentions j 0) → x ≡ every (within i.start i.end) (points_in m) → y ≡ ascends (λ k. (mention_in (get_or T.mentions k 0)).instruction) i.mentions j
     → (eqb m.spare 0 && (m.uses || m.mods || m.defs) && x && y) ≡ mention_good T i j
 mention_good_by T i j m x y e f g = rw (f, g, e)
-
--- the walk of one interval's mentions is clean, or finds a bad one
-pub mentions_clean : (T : Tables) (v : ℕ) (i : Interval) (r : Option ℕ) → i ≡ interval_at T.intervals v → r ≡ mention_find T i → r ≡ None → mention_find T (interval_at T.intervals v) ≡ None
-mentions_clean T v i r e f g = sym (ap (mention_find T) e) ∙ sym f ∙ g
-
-mentions_bad : (T : Tables) (v : ℕ) (i : Interval) (r : Option ℕ) (k : ℕ) → i ≡ interval_at T.intervals v → r ≡ mention_find T i → r ≡ Some k → mention_find T (interval_at T.intervals v) ≡ Some k
-mentions_bad T v i r k e f g = sym (ap (mention_find T) e) ∙ sym f ∙ g
 
 -- the range of one interval's mentions
 pub mention_range : (T : Tables) (v : ℕ) (i : Interval) → Ranged T → v < interval_count T.intervals → i ≡ interval_at T.intervals v → range_end i.mentions ≤ length T.mentions
@@ -179,26 +171,3 @@ register_good_by T r before e q t b h f g k l m =
     let d : e - q.index ≡ q.count = omega arith in
     let y : b ≡ fragments_good (2 * T.instructions) (part (register_at T.registers r) T.fragments) = m ∙ ap (λ (c : ℕ). fragments_good (2 * T.instructions) (take c (drop q.index T.fragments))) d ∙ ap (λ (z : Range). fragments_good (2 * T.instructions) (part z T.fragments)) f in
     rw x y
-
--- check 6 ends at the first interval with a bad mention
-pub mentions_stop : (T : Tables) (n v : ℕ) (i : Interval) (r : Option ℕ) (k : ℕ) → Walked (λ x. mention_find T (interval_at T.intervals x)) 0 (interval_count T.intervals) n v → v < n
-    → i ≡ interval_at T.intervals v → r ≡ mention_find T i → r ≡ Some k → Some k ≡ bad_mention T
-unfolding bad_mention
-mentions_stop T n v i r k w h e f g = walk_stops (λ x. mention_find T (interval_at T.intervals x)) 0 (interval_count T.intervals) n v k w h (mentions_bad T v i r k e f g)
-
--- checks 5 and 8: the first bad entry, else what is left over
-either_is : (a a' b b' r : Option ℕ) → a ≡ a' → b ≡ b' → r ≡ or_else a b → r ≡ or_else a' b'
-either_is a a' b b' r e f g = g ∙ ap (λ (x : Option ℕ). or_else x b) e ∙ ap (λ (x : Option ℕ). or_else a' x) f
-
-pub intervals_found : (T : Tables) (a b c d r : Option ℕ) → a ≡ first (λ v. bad_unless (interval_good T v) v) 0 (interval_count T.intervals)
-    → b ≡ leftovers (interval_count T.intervals) (length T.mentions) → c ≡ leftovers (interval_count T.intervals) (length T.safepoints) → d ≡ or_else b c → r ≡ or_else a d → r ≡ bad_interval T
-unfolding bad_interval
-intervals_found T a b c d r e f g h k =
-    let m : Option ℕ = leftovers (interval_count T.intervals) (length T.mentions) in
-    let s : Option ℕ = leftovers (interval_count T.intervals) (length T.safepoints) in
-    either_is a (first (λ v. bad_unless (interval_good T v) v) 0 (interval_count T.intervals)) d (or_else m s) r e (either_is b m c s d f g h) k
-
-pub fixed_found : (T : Tables) (a b x : Option ℕ) → a ≡ first (λ r. bad_unless (register_good T r) r) 0 (length T.registers)
-    → b ≡ leftovers (length T.registers) (length T.fragments) → x ≡ or_else a b → x ≡ bad_fixed T
-unfolding bad_fixed
-fixed_found T a b x e f g = either_is a (first (λ r. bad_unless (register_good T r) r) 0 (length T.registers)) b (leftovers (length T.registers) (length T.fragments)) x e f g

@@ -88,28 +88,9 @@ module _ (T : Tables) where
   unfolding from_fixed bad_fixed
   fixed_passes r e f = ap (refuse_at BadFixed) (sym f ∙ e)
 
-  -- what check 3 gives to the later ones
-  module _ (c : Check) (e : c ≡ check_limits T) (f : c ≡ fine) where
-    limits : Limits T
-    limits = limits_kept T (sym e ∙ f)
-
-    pub few_instructions : T.instructions ≤ 32768
-    few_instructions = limits.instructions
-
-    pub few_classes : length T.classes ≤ 8
-    few_classes = limits.classes
-
-    pub few_registers : length T.registers ≤ 64
-    few_registers = limits.registers
-
-    pub few_intervals : interval_count T.intervals ≤ 4096
-    few_intervals = limits.intervals
-
-    pub few_mentions : length T.mentions ≤ 16384
-    few_mentions = limits.mentions
-
-    pub few_safepoints : length T.safepoints ≤ 16384
-    few_safepoints = limits.safepoints
+-- what check 3 gives to the later ones
+pub limits : (T : Tables) (c : Check) → c ≡ check_limits T → c ≡ fine → Limits T
+limits T c e f = limits_kept T (sym e ∙ f)
 
 -- what check 5 gives,
 pub ranged : (T : Tables) (i : Option ℕ) → i ≡ bad_interval T → i ≡ None → Ranged T

@@ -23,8 +23,7 @@ use Rattle.rules.specs.Sound.{every, range_end, ascends, not_used_alone, safepoi
 use Rattle.rules.proofs.AcceptedLaws.{part_long}
 use Rattle.seek.specs.Seek.{Rising, Lower}
 use Rattle.rules.specs.Tables.{Tables}
-use Rattle.tables.specs.Entries.{Walked, Ascending, Placed, safepoint_find}
-use Rattle.tables.proofs.WalkLaws.{walk_stops}
+use Rattle.tables.specs.Entries.{Ascending, Placed}
 
 -- a test that every entry passes
 every_all : (f : ℕ → Bool) (l : List ℕ) → ((n : ℕ) → n < length l → f (get_or l n 0) ≡ true) → true ≡ every f l
@@ -127,12 +126,3 @@ mentions_placed T v i r h e = rw e (r.mentions v h)
 
 pub safepoints_placed : (T : Tables) (v : ℕ) (i : Interval) → Placed T → v < interval_count T.intervals → i ≡ interval_at T.intervals v → range_end i.safepoints ≤ length T.safepoints
 safepoints_placed T v i r h e = rw e (r.safepoints v h)
-
--- the walk of one interval's safepoints is clean, or finds a bad one: there check 7 ends
-pub safepoints_clean : (T : Tables) (v : ℕ) (i : Interval) (r : Option ℕ) → i ≡ interval_at T.intervals v → r ≡ safepoint_find T i → r ≡ None → safepoint_find T (interval_at T.intervals v) ≡ None
-safepoints_clean T v i r e f g = sym (ap (safepoint_find T) e) ∙ sym f ∙ g
-
-pub safepoints_stop : (T : Tables) (n v : ℕ) (i : Interval) (r : Option ℕ) (k : ℕ) → Walked (λ x. safepoint_find T (interval_at T.intervals x)) 0 (interval_count T.intervals) n v → v < n
-    → i ≡ interval_at T.intervals v → r ≡ safepoint_find T i → r ≡ Some k → Some k ≡ bad_safepoint T
-unfolding bad_safepoint
-safepoints_stop T n v i r k w h e f g = walk_stops (λ x. safepoint_find T (interval_at T.intervals x)) 0 (interval_count T.intervals) n v k w h (sym (ap (safepoint_find T) e) ∙ sym f ∙ g)

@@ -2,10 +2,10 @@
 ghost use Rattle.std.specs.Prelude.{◌≡◌, ◌+◌, ◌<◌, ◌≤◌, length, get_or};
 ghost use Rattle.words.specs.Packed.{register_at};
 ghost use Rattle.rules.specs.Lent.{tables_of};
-ghost use Rattle.rules.specs.Sound.{first, bad_unless, end_before, fragments_good, register_good, bad_fixed};
+ghost use Rattle.rules.specs.Sound.{end_before, fragments_good, register_good, bad_fixed};
 ghost use Rattle.tables.specs.Entries.{fragment_good, between};
 
-use crate::{read, tests};
+use crate::{read, tests, walk};
 use rules::Tables;
 
 // Where the fragments of the register before register r end.
@@ -59,21 +59,11 @@ fn register_good(tables: &Tables, r: usize) -> bool
     fragments_good(2 * tables.instructions, tables.fragments, q.index as usize, end)
 }
 
-fn first_register(tables: &Tables) -> Option<u16>
-    requires { (tables.now.instructions ≤ 32768) × (length tables.now.registers.now ≤ 64) }
-    ensures { result ≡ first (λ r. bad_unless (register_good (tables_of tables.now) r) r) 0 (length tables.now.registers.now) }
-{
-    for r in 0..tables.registers.len() {
-        if !register_good(tables, r) {
-            return Some(r as u16);
-        }
-    }
-    None
-}
-
 pub(crate) fn bad_fixed(tables: &Tables) -> Option<u16>
     requires { (tables.now.instructions ≤ 32768) × (length tables.now.registers.now ≤ 64) }
     ensures { result ≡ bad_fixed (tables_of tables.now) }
 {
-    first_register(tables).or(tests::left_over(tables.registers.len(), tables.fragments.len()))
+    let n = tables.registers.len();
+    let unused = tests::left_over(n, tables.fragments.len());
+    walk::first_bad(0, n, |r| register_good(tables, r)).or(unused)
 }

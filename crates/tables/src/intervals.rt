@@ -2,10 +2,10 @@
 ghost use Rattle.std.specs.Prelude.{◌≡◌, ◌<◌, ◌≤◌};
 ghost use Rattle.words.specs.Packed.{interval_count};
 ghost use Rattle.rules.specs.Lent.{tables_of};
-ghost use Rattle.rules.specs.Sound.{first, bad_unless, interval_good, bad_interval};
+ghost use Rattle.rules.specs.Sound.{interval_good, bad_interval};
 ghost use Rattle.tables.specs.Entries.{EndsBefore, extent_good, range_fits};
 
-use crate::{Ends, read, tests};
+use crate::{Ends, read, tests, walk};
 use rules::Tables;
 use words::Interval;
 
@@ -45,18 +45,6 @@ fn interval_good(tables: &Tables, v: usize) -> bool
         && tests::range_good(i.safepoints, before.safepoints, more, tables.safepoints.len())
 }
 
-fn first_interval(tables: &Tables) -> Option<u16>
-    requires { (tables.now.instructions ≤ 32768) × (interval_count tables.now.intervals.now ≤ 4096) }
-    ensures { result ≡ first (λ v. bad_unless (interval_good (tables_of tables.now) v) v) 0 (interval_count tables.now.intervals.now) }
-{
-    for v in 0..read::interval_count(tables.intervals) {
-        if !interval_good(tables, v) {
-            return Some(v as u16);
-        }
-    }
-    None
-}
-
 pub(crate) fn bad_interval(tables: &Tables) -> Option<u16>
     requires { (tables.now.instructions ≤ 32768) × (interval_count tables.now.intervals.now ≤ 4096) }
     ensures { result ≡ bad_interval (tables_of tables.now) }
@@ -64,5 +52,5 @@ pub(crate) fn bad_interval(tables: &Tables) -> Option<u16>
     let n = read::interval_count(tables.intervals);
     let unused =
         tests::left_over(n, tables.mentions.len()).or(tests::left_over(n, tables.safepoints.len()));
-    first_interval(tables).or(unused)
+    walk::first_bad(0, n, |v| interval_good(tables, v)).or(unused)
 }

@@ -6,7 +6,7 @@ ghost use Rattle.rules.specs.Lent.{tables_of};
 ghost use Rattle.rules.specs.Sound.{every, ascends, range_end, not_used_alone, safepoint_good, bad_safepoint};
 ghost use Rattle.tables.specs.Entries.{Ascending, Placed, safepoint_find};
 
-use crate::{read, tests};
+use crate::{read, tests, walk};
 use rules::Tables;
 use seek;
 use words::{Interval, Range};
@@ -62,23 +62,15 @@ fn first_safepoint(tables: &Tables, i: Interval) -> Option<u16>
     requires { (range_end i.safepoints ≤ length tables.now.safepoints.now) × (length tables.now.safepoints.now ≤ 16384) × (Ascending tables.now.mentions.now i.mentions) }
     ensures { result ≡ safepoint_find (tables_of tables.now) i }
 {
-    for j in i.safepoints.index as usize..tests::range_end(i.safepoints) {
-        if !safepoint_good(tables, i, j) {
-            return Some(j as u16);
-        }
-    }
-    None
+    let end = tests::range_end(i.safepoints);
+    walk::first_bad(i.safepoints.index as usize, end, |j| safepoint_good(tables, i, j))
 }
 
 pub(crate) fn bad_safepoint(tables: &Tables) -> Option<u16>
     requires { (Placed (tables_of tables.now)) × (length tables.now.safepoints.now ≤ 16384) }
     ensures { result ≡ bad_safepoint (tables_of tables.now) }
 {
-    for v in 0..read::interval_count(tables.intervals) {
-        let i = read::interval_at(tables.intervals, v);
-        if let Some(j) = first_safepoint(tables, i) {
-            return Some(j);
-        }
-    }
-    None
+    walk::first_found(0, read::interval_count(tables.intervals), |v| {
+        first_safepoint(tables, read::interval_at(tables.intervals, v))
+    })
 }

@@ -1,4 +1,15 @@
+-- `tables::mentions::bad_mention` meets its contract: the walk of all intervals, each by the walk of its range.
+-- Assumes nothing.
+use Rattle.std.proofs.Common.{rules}
+use Rattle.words.specs.Packed.{interval_at}
+use Rattle.rules.specs.Lent.{tables_of}
+use Rattle.rules.specs.Sound.{bad_mention}
+use Rattle.tables.specs.Entries.{mention_find}
+use Rattle.tables.proofs.WalkLaws.{find_all}
 use Rattle.tables.proofs.mentions.bad_mention.Goals as goal
 
-pub first_mention-requires : goal.first_mention-requires
-first_mention-requires c = let h = c.told-tables in let k = c.interval_count-v-end in let i = c.loop-v in ?
+pub returns : goal.returns
+unfolding bad_mention
+returns c =
+    let T = tables_of c.args.tables.now in
+    find_all _ _ _ _ c.interval_count.ensures (c.first_found.ensures (λ v. mention_find T (interval_at T.intervals v)) (λ k r l h p. search rules depth 9))

@@ -1,9 +1,0 @@
--- `tables::mentions::bad_mention` meets its contract: the walk stops at the first interval that has a bad mention.
--- Assumes nothing.
-use Rattle.words.specs.Packed.{interval_at, interval_count}
-use Rattle.rules.specs.Lent.{tables_of}
-use Rattle.tables.specs.Entries.{Walked, mention_find}
-use Rattle.tables.proofs.mentions.bad_mention.Given as goal
-
-abbrev pub invariant-loop-v : goal.invariant-loop-v
-invariant-loop-v l = Walked (λ k. mention_find (tables_of l.tables) (interval_at l.tables.intervals.now k)) 0 (interval_count l.tables.intervals.now) (interval_count l.tables.intervals.now) l.v

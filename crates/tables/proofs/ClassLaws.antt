@@ -16,15 +16,8 @@ use Rattle.words.specs.Packed.{class_in, class_at}
 use Rattle.words.proofs.Field.{bits_lt}
 use Rattle.words.specs.declared.Class.{Class}
 use Rattle.rules.specs.Sound.{count_sum, scratch_good, class_good}
-use Rattle.tables.specs.Given.{class_tables}
+use Rattle.rules.specs.Tables.{Tables}
 use Rattle.tables.specs.Entries.{Summed}
-
--- has-scratch exactly if count > 0
-pub scratch_some : (c : Class) → 0 < c.count → (c.scratched && leb c.first c.scratch && ltb c.scratch (c.first + c.count)) ≡ scratch_good c
-scratch_some c h = simp (lt-ltb 0 c.count h)
-
-pub scratch_none : (c : Class) → c.count ≤ 0 → (not c.scratched && eqb c.scratch 0) ≡ scratch_good c
-scratch_none c h = simp (le-ltb 0 c.count h)
 
 -- the counts of one class more
 take_count : (cs : List ℕ) (k : ℕ) → k < length cs → count_sum (take (k + 1) cs) ≡ count_sum (take k cs) + (class_in (get_or cs k 0)).count
@@ -36,20 +29,8 @@ take_count (x ∷ cs) (suc k) h =
     rw (add-one (suc k)) (omega arith)
 
 -- with the last class's count the sum is that of all
-all_counts : (cs : List ℕ) (k : ℕ) → k < length cs → length cs ≤ k + 1 → count_sum cs ≡ count_sum (take k cs) + (class_in (get_or cs k 0)).count
-all_counts cs k h l = sym (ap count_sum (take_all (k + 1) cs l)) ∙ take_count cs k h
-
-last_sum : (cs : List ℕ) (k n : ℕ) → k < length cs → (ltb (k + 1) (length cs) || eqb (count_sum (take k cs) + (class_in (get_or cs k 0)).count) n) ≡ (ltb (k + 1) (length cs) || eqb (count_sum cs) n)
-last_sum cs k n h = go (dec_lt (k + 1) (length cs))
-  where
-    go : Dec (k + 1 < length cs) → (ltb (k + 1) (length cs) || eqb (count_sum (take k cs) + (class_in (get_or cs k 0)).count) n) ≡ (ltb (k + 1) (length cs) || eqb (count_sum cs) n)
-    go (yes l) = simp (lt-ltb (k + 1) (length cs) l)
-    go (no l) = rw (all_counts cs k h (omega arith))
-
--- the test of class k, by the running sum
-pub class_good_by : (cs rs : List ℕ) (k sum : ℕ) (c : Class) (s : Bool) → k < length cs → Summed cs k sum → c ≡ class_at cs k → s ≡ scratch_good c
-    → (eqb c.spare 0 && eqb c.first sum && s && (ltb (k + 1) (length cs) || eqb (sum + c.count) (length rs))) ≡ class_good (class_tables cs rs) k
-class_good_by cs rs k sum c s h m e f = rw (f, e, m.is, last_sum cs k (length rs) h)
+pub sum_of_all : (cs : List ℕ) (k sum : ℕ) (c : Class) → k < length cs → length cs ≤ k + 1 → Summed cs k sum → c ≡ class_at cs k → sum + c.count ≡ count_sum cs
+sum_of_all cs k sum c h l m e = rw (e, m.is) (sym (take_count cs k h) ∙ ap count_sum (take_all (k + 1) cs l))
 
 -- the running sum
 pub sum_starts : (cs : List ℕ) → Summed cs 0 0

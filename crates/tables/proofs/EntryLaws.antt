@@ -23,9 +23,8 @@ use Rattle.words.specs.declared.Mention.{Mention}
 use Rattle.rules.specs.Uses.{points_in}
 use Rattle.rules.specs.Sound.{every, range_end, end_before, interval_good, ascends, mention_good, first, bad_unless, fragments_good, register_good, bad_mention, bad_interval, bad_fixed, leftovers, or_else}
 use Rattle.tables.specs.declared.Ends.{Ends}
-use Rattle.tables.proofs.WalkLaws.{walk_stops}
-use Rattle.tables.specs.Given.{interval_tables, mention_tables, fixed_tables}
-use Rattle.tables.specs.Entries.{Walked, EndsBefore, Ranged, Passed, range_fits, extent_good, mention_find, between, fragment_good}
+use Rattle.rules.specs.Tables.{Tables}
+use Rattle.tables.specs.Entries.{EndsBefore, Ranged, Passed, range_fits, extent_good, mention_find, between, fragment_good}
 
 -- where the range before range k ends
 end_before_lem : (ranges : ℕ → Range) (k : ℕ) → (k ≡ 0 → ⊥) → end_before ranges k ≡ range_end (ranges (k - 1))
@@ -40,12 +39,12 @@ ends_next is v i e h f m s =
     }
 
 -- the test of an interval, part by part
-pub interval_good_by : (n : ℕ) (cs is ms ss : List ℕ) (v : ℕ) (i : Interval) (b : Ends) (x m s : Bool)
-    → EndsBefore is v b → i ≡ interval_at is v → x ≡ extent_good (2 * n) (length cs) i
-    → m ≡ range_fits i.mentions b.mentions (ltb (v + 1) (interval_count is)) (length ms)
-    → s ≡ range_fits i.safepoints b.safepoints (ltb (v + 1) (interval_count is)) (length ss)
-    → (x && m && s) ≡ interval_good (interval_tables n cs is ms ss) v
-interval_good_by n cs is ms ss v i b x m s e f g h k = rw (g, h, k, f, e.mentions, e.safepoints)
+pub interval_good_by : (T : Tables) (v : ℕ) (i : Interval) (b : Ends) (x m s : Bool)
+    → EndsBefore T.intervals v b → i ≡ interval_at T.intervals v → x ≡ extent_good (2 * T.instructions) (length T.classes) i
+    → m ≡ range_fits i.mentions b.mentions (ltb (v + 1) (interval_count T.intervals)) (length T.mentions)
+    → s ≡ range_fits i.safepoints b.safepoints (ltb (v + 1) (interval_count T.intervals)) (length T.safepoints)
+    → (x && m && s) ≡ interval_good T v
+interval_good_by T v i b x m s e f g h k = rw (g, h, k, f, e.mentions, e.safepoints)
 
 -- the points of a mention, one by one
 pub points_inside : (a e : ℕ) (m : Mention) (x y : Bool) → x ≡ within a e (2 * m.instruction) → y ≡ within a e (2 * m.instruction + 1)
@@ -85,21 +84,14 @@ pub safepoint_rises : (ss : List ℕ) (r : Range) (j : ℕ) → r.index < j → 
 safepoint_rises ss r j h = rises_next (λ k. get_or ss k 0) r j h
 
 -- the test of a mention, part by part
-pub mention_good_by : (ms : List ℕ) (i : Interval) (j : ℕ) (m : Mention) (x y : Bool)
-    → m ≡ mention_in (get_or ms j 0) → x ≡ every (within i.start i.end) (points_in m) → y ≡ ascends (λ k. (mention_in (get_or ms k 0)).instruction) i.mentions j
-    → (eqb m.spare 0 && (m.uses || m.mods || m.defs) && x && y) ≡ mention_good (mention_tables [] ms) i j
-mention_good_by ms i j m x y e f g = rw (f, g, e)
-
--- the walk of one interval's mentions is clean, or finds a bad one
-pub mentions_clean : (is ms : List ℕ) (v : ℕ) (i : Interval) (r : Option ℕ) → i ≡ interval_at is v → r ≡ mention_find ms i → r ≡ None → mention_find ms (interval_at is v) ≡ None
-mentions_clean is ms v i r e f g = sym (ap (mention_find ms) e) ∙ sym f ∙ g
-
-mentions_bad : (is ms : List ℕ) (v : ℕ) (i : Interval) (r : Option ℕ) (k : ℕ) → i ≡ interval_at is v → r ≡ mention_find ms i → r ≡ Some k → mention_find ms (interval_at is v) ≡ Some k
-mentions_bad is ms v i r k e f g = sym (ap (mention_find ms) e) ∙ sym f ∙ g
+pub mention_good_by : (T : Tables) (i : Interval) (j : ℕ) (m : Mention) (x y : Bool)
+    → m ≡ mention_in (get_or T.mentions j 0) → x ≡ every (within i.start i.end) (points_in m) → y ≡ ascends (λ k. (mention_in (get_or T.mentions k 0)).instruction) i.mentions j
+    → (eqb m.spare 0 && (m.uses || m.mods || m.defs) && x && y) ≡ mention_good T i j
+mention_good_by T i j m x y e f g = rw (f, g, e)
 
 -- the range of one interval's mentions
-pub mention_range : (is ms : List ℕ) (v : ℕ) (i : Interval) → Ranged is ms → v < interval_count is → i ≡ interval_at is v → range_end i.mentions ≤ length ms
-mention_range is ms v i r h e = rw e (r.inside v h)
+pub mention_range : (T : Tables) (v : ℕ) (i : Interval) → Ranged T → v < interval_count T.intervals → i ≡ interval_at T.intervals v → range_end i.mentions ≤ length T.mentions
+mention_range T v i r h e = rw e (r.inside v h)
 
 -- 8: where the fragments of the register before register r end
 pub registers_next : (rs : List ℕ) (r e : ℕ) (q : Range) → (r ≡ 0 → ⊥) → q ≡ register_at rs (r - 1) → e ≡ range_end q → e ≡ end_before (register_at rs) r
@@ -157,10 +149,10 @@ fits_at rs fs r before q e f =
     ap (λ (z : Range). range_fits z (end_before (register_at rs) r) (ltb (r + 1) (length rs)) (length fs)) (sym f) ∙ ap (λ (b : ℕ). range_fits q b (ltb (r + 1) (length rs)) (length fs)) (sym e)
 
 -- the test of a register: its range,
-pub register_bad : (n : ℕ) (rs fs : List ℕ) (r before : ℕ) (q : Range) (t : Bool) → before ≡ end_before (register_at rs) r → q ≡ register_at rs r
-    → t ≡ range_fits q before (ltb (r + 1) (length rs)) (length fs) → not t ≡ true → false ≡ register_good (fixed_tables n rs fs) r
-register_bad n rs fs r before q t e f g h =
-    let x : range_fits (register_at rs r) (end_before (register_at rs) r) (ltb (r + 1) (length rs)) (length fs) ≡ false = fits_at rs fs r before q e f ∙ sym g ∙ not-true t h in
+pub register_bad : (T : Tables) (r before : ℕ) (q : Range) (t : Bool) → before ≡ end_before (register_at T.registers) r → q ≡ register_at T.registers r
+    → t ≡ range_fits q before (ltb (r + 1) (length T.registers)) (length T.fragments) → not t ≡ true → false ≡ register_good T r
+register_bad T r before q t e f g h =
+    let x : range_fits (register_at T.registers r) (end_before (register_at T.registers) r) (ltb (r + 1) (length T.registers)) (length T.fragments) ≡ false = fits_at T.registers T.fragments r before q e f ∙ sym g ∙ not-true t h in
     rw x
 
 -- which lies in the table where it is good,
@@ -171,34 +163,11 @@ range_inside q before more len e t f g h =
     omega (arith, leb-true (range_end q) len y)
 
 -- and then its fragments
-pub register_good_by : (n : ℕ) (rs fs : List ℕ) (r before e : ℕ) (q : Range) (t b : Bool) → before ≡ end_before (register_at rs) r → q ≡ register_at rs r
-    → t ≡ range_fits q before (ltb (r + 1) (length rs)) (length fs) → not t ≡ false → e ≡ range_end q → b ≡ fragments_good (2 * n) (between q.index e fs)
-    → b ≡ register_good (fixed_tables n rs fs) r
-register_good_by n rs fs r before e q t b h f g k l m =
-    let x : range_fits (register_at rs r) (end_before (register_at rs) r) (ltb (r + 1) (length rs)) (length fs) ≡ true = fits_at rs fs r before q h f ∙ sym g ∙ not-false t k in
+pub register_good_by : (T : Tables) (r before e : ℕ) (q : Range) (t b : Bool) → before ≡ end_before (register_at T.registers) r → q ≡ register_at T.registers r
+    → t ≡ range_fits q before (ltb (r + 1) (length T.registers)) (length T.fragments) → not t ≡ false → e ≡ range_end q → b ≡ fragments_good (2 * T.instructions) (between q.index e T.fragments)
+    → b ≡ register_good T r
+register_good_by T r before e q t b h f g k l m =
+    let x : range_fits (register_at T.registers r) (end_before (register_at T.registers) r) (ltb (r + 1) (length T.registers)) (length T.fragments) ≡ true = fits_at T.registers T.fragments r before q h f ∙ sym g ∙ not-false t k in
     let d : e - q.index ≡ q.count = omega arith in
-    let y : b ≡ fragments_good (2 * n) (part (register_at rs r) fs) = m ∙ ap (λ (c : ℕ). fragments_good (2 * n) (take c (drop q.index fs))) d ∙ ap (λ (z : Range). fragments_good (2 * n) (part z fs)) f in
+    let y : b ≡ fragments_good (2 * T.instructions) (part (register_at T.registers r) T.fragments) = m ∙ ap (λ (c : ℕ). fragments_good (2 * T.instructions) (take c (drop q.index T.fragments))) d ∙ ap (λ (z : Range). fragments_good (2 * T.instructions) (part z T.fragments)) f in
     rw x y
-
--- check 6 ends at the first interval with a bad mention
-pub mentions_stop : (is ms : List ℕ) (n v : ℕ) (i : Interval) (r : Option ℕ) (k : ℕ) → Walked (λ x. mention_find ms (interval_at is x)) 0 (interval_count is) n v → v < n
-    → i ≡ interval_at is v → r ≡ mention_find ms i → r ≡ Some k → Some k ≡ bad_mention (mention_tables is ms)
-unfolding bad_mention
-mentions_stop is ms n v i r k w h e f g = walk_stops (λ x. mention_find ms (interval_at is x)) 0 (interval_count is) n v k w h (mentions_bad is ms v i r k e f g)
-
--- checks 5 and 8: the first bad entry, else what is left over
-either_is : (a a' b b' r : Option ℕ) → a ≡ a' → b ≡ b' → r ≡ or_else a b → r ≡ or_else a' b'
-either_is a a' b b' r e f g = g ∙ ap (λ (x : Option ℕ). or_else x b) e ∙ ap (λ (x : Option ℕ). or_else a' x) f
-
-pub intervals_found : (n : ℕ) (cs is ms ss : List ℕ) (a b c d r : Option ℕ) → a ≡ first (λ v. bad_unless (interval_good (interval_tables n cs is ms ss) v) v) 0 (interval_count is)
-    → b ≡ leftovers (interval_count is) (length ms) → c ≡ leftovers (interval_count is) (length ss) → d ≡ or_else b c → r ≡ or_else a d → r ≡ bad_interval (interval_tables n cs is ms ss)
-unfolding bad_interval
-intervals_found n cs is ms ss a b c d r e f g h k =
-    let m : Option ℕ = leftovers (interval_count is) (length ms) in
-    let s : Option ℕ = leftovers (interval_count is) (length ss) in
-    either_is a (first (λ v. bad_unless (interval_good (interval_tables n cs is ms ss) v) v) 0 (interval_count is)) d (or_else m s) r e (either_is b m c s d f g h) k
-
-pub fixed_found : (n : ℕ) (rs fs : List ℕ) (a b x : Option ℕ) → a ≡ first (λ r. bad_unless (register_good (fixed_tables n rs fs) r) r) 0 (length rs)
-    → b ≡ leftovers (length rs) (length fs) → x ≡ or_else a b → x ≡ bad_fixed (fixed_tables n rs fs)
-unfolding bad_fixed
-fixed_found n rs fs a b x e f g = either_is a (first (λ r. bad_unless (register_good (fixed_tables n rs fs) r) r) 0 (length rs)) b (leftovers (length rs) (length fs)) x e f g

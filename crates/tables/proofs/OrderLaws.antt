@@ -13,7 +13,6 @@ use Rattle.rules.specs.Tables.{Tables}
 use Rattle.rules.specs.Sound.{and_then, refuse_at, check_limits, bad_class, bad_interval, bad_mention, bad_safepoint, bad_fixed, check_tables}
 use Rattle.rules.specs.Accepted.{Limits}
 use Rattle.rules.proofs.Accepted.{limits_kept, intervals_kept, mentions_kept}
-use Rattle.tables.specs.Given.{tables, class_tables, interval_tables, mention_tables, safepoint_tables, fixed_tables}
 use Rattle.tables.specs.Entries.{Ranged, Placed}
 
 -- the checks from each one on
@@ -39,89 +38,70 @@ refuses mk f r rest k e g = simp (← e, g)
 hands_on : (mk : ℕ → Refusal) (f r : Option ℕ) (rest s : Check) → r ≡ f → r ≡ None → s ≡ rest → s ≡ and_then (refuse_at mk f) rest
 hands_on mk f r rest s e g h = simp (← e, g) h
 
-module _ (n : ℕ) (cs rs fs is ms ss : List ℕ) where
+module _ (T : Tables) where
   -- the answer of check 3, and of each after it
-  pub limits_refuse : (c : Check) (a : Refusal) → c ≡ check_limits (tables n cs rs fs is ms ss) → c ≡ Err a → Err a ≡ check_tables (tables n cs rs fs is ms ss)
+  pub limits_refuse : (c : Check) (a : Refusal) → c ≡ check_limits T → c ≡ Err a → Err a ≡ check_tables T
   unfolding check_tables
   limits_refuse c a e f = simp (← e, f)
 
-  pub limits_pass : (c s : Check) → c ≡ check_limits (tables n cs rs fs is ms ss) → c ≡ fine → s ≡ from_classes (tables n cs rs fs is ms ss) → s ≡ check_tables (tables n cs rs fs is ms ss)
+  pub limits_pass : (c s : Check) → c ≡ check_limits T → c ≡ fine → s ≡ from_classes T → s ≡ check_tables T
   unfolding check_tables from_classes from_intervals from_mentions from_safepoints from_fixed
   limits_pass c s e f g = simp (← e, f) g
 
-  pub class_refuses : (r : Option ℕ) (k : ℕ) → r ≡ bad_class (class_tables cs rs) → r ≡ Some k → Err (BadClass k) ≡ from_classes (tables n cs rs fs is ms ss)
+  pub class_refuses : (r : Option ℕ) (k : ℕ) → r ≡ bad_class T → r ≡ Some k → Err (BadClass k) ≡ from_classes T
   unfolding from_classes bad_class
-  class_refuses r k e f = refuses BadClass (bad_class (tables n cs rs fs is ms ss)) r (from_intervals (tables n cs rs fs is ms ss)) k e f
+  class_refuses r k e f = refuses BadClass (bad_class T) r (from_intervals T) k e f
 
-  pub class_passes : (r : Option ℕ) (s : Check) → r ≡ bad_class (class_tables cs rs) → r ≡ None → s ≡ from_intervals (tables n cs rs fs is ms ss) → s ≡ from_classes (tables n cs rs fs is ms ss)
+  pub class_passes : (r : Option ℕ) (s : Check) → r ≡ bad_class T → r ≡ None → s ≡ from_intervals T → s ≡ from_classes T
   unfolding from_classes bad_class
-  class_passes r s e f g = hands_on BadClass (bad_class (tables n cs rs fs is ms ss)) r (from_intervals (tables n cs rs fs is ms ss)) s e f g
+  class_passes r s e f g = hands_on BadClass (bad_class T) r (from_intervals T) s e f g
 
-  pub interval_refuses : (r : Option ℕ) (k : ℕ) → r ≡ bad_interval (interval_tables n cs is ms ss) → r ≡ Some k → Err (BadInterval k) ≡ from_intervals (tables n cs rs fs is ms ss)
+  pub interval_refuses : (r : Option ℕ) (k : ℕ) → r ≡ bad_interval T → r ≡ Some k → Err (BadInterval k) ≡ from_intervals T
   unfolding from_intervals bad_interval
-  interval_refuses r k e f = refuses BadInterval (bad_interval (tables n cs rs fs is ms ss)) r (from_mentions (tables n cs rs fs is ms ss)) k e f
+  interval_refuses r k e f = refuses BadInterval (bad_interval T) r (from_mentions T) k e f
 
-  pub interval_passes : (r : Option ℕ) (s : Check) → r ≡ bad_interval (interval_tables n cs is ms ss) → r ≡ None → s ≡ from_mentions (tables n cs rs fs is ms ss) → s ≡ from_intervals (tables n cs rs fs is ms ss)
+  pub interval_passes : (r : Option ℕ) (s : Check) → r ≡ bad_interval T → r ≡ None → s ≡ from_mentions T → s ≡ from_intervals T
   unfolding from_intervals bad_interval
-  interval_passes r s e f g = hands_on BadInterval (bad_interval (tables n cs rs fs is ms ss)) r (from_mentions (tables n cs rs fs is ms ss)) s e f g
+  interval_passes r s e f g = hands_on BadInterval (bad_interval T) r (from_mentions T) s e f g
 
-  pub mention_refuses : (r : Option ℕ) (k : ℕ) → r ≡ bad_mention (mention_tables is ms) → r ≡ Some k → Err (BadMention k) ≡ from_mentions (tables n cs rs fs is ms ss)
+  pub mention_refuses : (r : Option ℕ) (k : ℕ) → r ≡ bad_mention T → r ≡ Some k → Err (BadMention k) ≡ from_mentions T
   unfolding from_mentions bad_mention
-  mention_refuses r k e f = refuses BadMention (bad_mention (tables n cs rs fs is ms ss)) r (from_safepoints (tables n cs rs fs is ms ss)) k e f
+  mention_refuses r k e f = refuses BadMention (bad_mention T) r (from_safepoints T) k e f
 
-  pub mention_passes : (r : Option ℕ) (s : Check) → r ≡ bad_mention (mention_tables is ms) → r ≡ None → s ≡ from_safepoints (tables n cs rs fs is ms ss) → s ≡ from_mentions (tables n cs rs fs is ms ss)
+  pub mention_passes : (r : Option ℕ) (s : Check) → r ≡ bad_mention T → r ≡ None → s ≡ from_safepoints T → s ≡ from_mentions T
   unfolding from_mentions bad_mention
-  mention_passes r s e f g = hands_on BadMention (bad_mention (tables n cs rs fs is ms ss)) r (from_safepoints (tables n cs rs fs is ms ss)) s e f g
+  mention_passes r s e f g = hands_on BadMention (bad_mention T) r (from_safepoints T) s e f g
 
-  pub safepoint_refuses : (r : Option ℕ) (k : ℕ) → r ≡ bad_safepoint (safepoint_tables is ms ss) → r ≡ Some k → Err (BadSafepoint k) ≡ from_safepoints (tables n cs rs fs is ms ss)
+  pub safepoint_refuses : (r : Option ℕ) (k : ℕ) → r ≡ bad_safepoint T → r ≡ Some k → Err (BadSafepoint k) ≡ from_safepoints T
   unfolding from_safepoints bad_safepoint
-  safepoint_refuses r k e f = refuses BadSafepoint (bad_safepoint (tables n cs rs fs is ms ss)) r (from_fixed (tables n cs rs fs is ms ss)) k e f
+  safepoint_refuses r k e f = refuses BadSafepoint (bad_safepoint T) r (from_fixed T) k e f
 
-  pub safepoint_passes : (r : Option ℕ) (s : Check) → r ≡ bad_safepoint (safepoint_tables is ms ss) → r ≡ None → s ≡ from_fixed (tables n cs rs fs is ms ss) → s ≡ from_safepoints (tables n cs rs fs is ms ss)
+  pub safepoint_passes : (r : Option ℕ) (s : Check) → r ≡ bad_safepoint T → r ≡ None → s ≡ from_fixed T → s ≡ from_safepoints T
   unfolding from_safepoints bad_safepoint
-  safepoint_passes r s e f g = hands_on BadSafepoint (bad_safepoint (tables n cs rs fs is ms ss)) r (from_fixed (tables n cs rs fs is ms ss)) s e f g
+  safepoint_passes r s e f g = hands_on BadSafepoint (bad_safepoint T) r (from_fixed T) s e f g
 
-  pub fixed_refuses : (r : Option ℕ) (k : ℕ) → r ≡ bad_fixed (fixed_tables n rs fs) → r ≡ Some k → Err (BadFixed k) ≡ from_fixed (tables n cs rs fs is ms ss)
+  pub fixed_refuses : (r : Option ℕ) (k : ℕ) → r ≡ bad_fixed T → r ≡ Some k → Err (BadFixed k) ≡ from_fixed T
   unfolding from_fixed bad_fixed
   fixed_refuses r k e f = ap (refuse_at BadFixed) (sym f ∙ e)
 
-  pub fixed_passes : (r : Option ℕ) → r ≡ bad_fixed (fixed_tables n rs fs) → r ≡ None → fine ≡ from_fixed (tables n cs rs fs is ms ss)
+  pub fixed_passes : (r : Option ℕ) → r ≡ bad_fixed T → r ≡ None → fine ≡ from_fixed T
   unfolding from_fixed bad_fixed
   fixed_passes r e f = ap (refuse_at BadFixed) (sym f ∙ e)
 
-  -- what check 3 gives to the later ones
-  module _ (c : Check) (e : c ≡ check_limits (tables n cs rs fs is ms ss)) (f : c ≡ fine) where
-    limits : Limits (tables n cs rs fs is ms ss)
-    limits = limits_kept (tables n cs rs fs is ms ss) (sym e ∙ f)
-
-    pub few_instructions : n ≤ 32768
-    few_instructions = limits.instructions
-
-    pub few_classes : length cs ≤ 8
-    few_classes = limits.classes
-
-    pub few_registers : length rs ≤ 64
-    few_registers = limits.registers
-
-    pub few_intervals : interval_count is ≤ 4096
-    few_intervals = limits.intervals
-
-    pub few_mentions : length ms ≤ 16384
-    few_mentions = limits.mentions
-
-    pub few_safepoints : length ss ≤ 16384
-    few_safepoints = limits.safepoints
+-- what check 3 gives to the later ones
+pub limits : (T : Tables) (c : Check) → c ≡ check_limits T → c ≡ fine → Limits T
+limits T c e f = limits_kept T (sym e ∙ f)
 
 -- what check 5 gives,
-pub ranged : (n : ℕ) (cs is ms ss : List ℕ) (i : Option ℕ) → i ≡ bad_interval (interval_tables n cs is ms ss) → i ≡ None → Ranged is ms
-ranged n cs is ms ss i e f = record { inside = λ v h. (intervals_kept (interval_tables n cs is ms ss) (sym e ∙ f) v h).mentions }
+pub ranged : (T : Tables) (i : Option ℕ) → i ≡ bad_interval T → i ≡ None → Ranged T
+ranged T i e f = record { inside = λ v h. (intervals_kept T (sym e ∙ f) v h).mentions }
 
 -- and checks 5 and 6
-pub placed : (n : ℕ) (cs is ms ss : List ℕ) (i m : Option ℕ) → i ≡ bad_interval (interval_tables n cs is ms ss) → i ≡ None → m ≡ bad_mention (mention_tables is ms) → m ≡ None → Placed is ms ss
-placed n cs is ms ss i m e f g h =
+pub placed : (T : Tables) (i m : Option ℕ) → i ≡ bad_interval T → i ≡ None → m ≡ bad_mention T → m ≡ None → Placed T
+placed T i m e f g h =
     record {
-      mentions = λ v l. record { inside = (intervals_kept (interval_tables n cs is ms ss) (sym e ∙ f) v l).mentions; up = (mentions_kept (mention_tables is ms) (sym g ∙ h) v l).ascending };
-      safepoints = λ v l. (intervals_kept (interval_tables n cs is ms ss) (sym e ∙ f) v l).safepoints;
+      mentions = λ v l. record { inside = (intervals_kept T (sym e ∙ f) v l).mentions; up = (mentions_kept T (sym g ∙ h) v l).ascending };
+      safepoints = λ v l. (intervals_kept T (sym e ∙ f) v l).safepoints;
     }
 
 -- the answer in every case

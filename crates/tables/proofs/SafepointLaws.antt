@@ -22,9 +22,8 @@ use Rattle.words.specs.declared.Mention.{Mention}
 use Rattle.rules.specs.Sound.{every, range_end, ascends, not_used_alone, safepoint_good, bad_safepoint}
 use Rattle.rules.proofs.AcceptedLaws.{part_long}
 use Rattle.seek.specs.Seek.{Rising, Lower}
-use Rattle.tables.specs.Given.{safepoint_tables}
-use Rattle.tables.specs.Entries.{Walked, Ascending, Placed, safepoint_find}
-use Rattle.tables.proofs.WalkLaws.{walk_stops}
+use Rattle.rules.specs.Tables.{Tables}
+use Rattle.tables.specs.Entries.{Ascending, Placed}
 
 -- a test that every entry passes
 every_all : (f : ℕ → Bool) (l : List ℕ) → ((n : ℕ) → n < length l → f (get_or l n 0) ≡ true) → true ≡ every f l
@@ -117,22 +116,13 @@ module _ (ms : List ℕ) (q : Range) (up : Ascending ms q) (words : (k : ℕ) �
           go (no g) = after n c (omega arith)
 
 -- the test of a safepoint, part by part
-pub safepoint_good_by : (ms ss : List ℕ) (i : Interval) (j p : ℕ) (x y z : Bool) → x ≡ ascends (λ k. get_or ss k 0) i.safepoints j → p ≡ use_point (get_or ss j 0)
-    → y ≡ within i.start i.end p → z ≡ every (not_used_alone (get_or ss j 0)) (part i.mentions ms) → (i.reference && x && y && z) ≡ safepoint_good (safepoint_tables [] ms ss) i j
-safepoint_good_by ms ss i j p x y z e f g h = rw (e, g, f, h)
+pub safepoint_good_by : (T : Tables) (i : Interval) (j p : ℕ) (x y z : Bool) → x ≡ ascends (λ k. get_or T.safepoints k 0) i.safepoints j → p ≡ use_point (get_or T.safepoints j 0)
+    → y ≡ within i.start i.end p → z ≡ every (not_used_alone (get_or T.safepoints j 0)) (part i.mentions T.mentions) → (i.reference && x && y && z) ≡ safepoint_good T i j
+safepoint_good_by T i j p x y z e f g h = rw (e, g, f, h)
 
 -- the ranges of one interval
-pub mentions_placed : (is ms ss : List ℕ) (v : ℕ) (i : Interval) → Placed is ms ss → v < interval_count is → i ≡ interval_at is v → Ascending ms i.mentions
-mentions_placed is ms ss v i r h e = rw e (r.mentions v h)
+pub mentions_placed : (T : Tables) (v : ℕ) (i : Interval) → Placed T → v < interval_count T.intervals → i ≡ interval_at T.intervals v → Ascending T.mentions i.mentions
+mentions_placed T v i r h e = rw e (r.mentions v h)
 
-pub safepoints_placed : (is ms ss : List ℕ) (v : ℕ) (i : Interval) → Placed is ms ss → v < interval_count is → i ≡ interval_at is v → range_end i.safepoints ≤ length ss
-safepoints_placed is ms ss v i r h e = rw e (r.safepoints v h)
-
--- the walk of one interval's safepoints is clean, or finds a bad one: there check 7 ends
-pub safepoints_clean : (is ms ss : List ℕ) (v : ℕ) (i : Interval) (r : Option ℕ) → i ≡ interval_at is v → r ≡ safepoint_find ms ss i → r ≡ None → safepoint_find ms ss (interval_at is v) ≡ None
-safepoints_clean is ms ss v i r e f g = sym (ap (safepoint_find ms ss) e) ∙ sym f ∙ g
-
-pub safepoints_stop : (is ms ss : List ℕ) (n v : ℕ) (i : Interval) (r : Option ℕ) (k : ℕ) → Walked (λ x. safepoint_find ms ss (interval_at is x)) 0 (interval_count is) n v → v < n
-    → i ≡ interval_at is v → r ≡ safepoint_find ms ss i → r ≡ Some k → Some k ≡ bad_safepoint (safepoint_tables is ms ss)
-unfolding bad_safepoint
-safepoints_stop is ms ss n v i r k w h e f g = walk_stops (λ x. safepoint_find ms ss (interval_at is x)) 0 (interval_count is) n v k w h (sym (ap (safepoint_find ms ss) e) ∙ sym f ∙ g)
+pub safepoints_placed : (T : Tables) (v : ℕ) (i : Interval) → Placed T → v < interval_count T.intervals → i ≡ interval_at T.intervals v → range_end i.safepoints ≤ length T.safepoints
+safepoints_placed T v i r h e = rw e (r.safepoints v h)

@@ -3,16 +3,18 @@
 use Rattle.rules.specs.Answers.{fine}
 use Rattle.std.specs.Prelude.{Option, None, Some, Ok, Err}
 use Prim.Native.Nat.{ℕ, suc, ◌+◌, ◌-◌, ◌≤◌, ◌<◌}
-use mathlib.Core.Path.{◌≡◌, sym, ◌∙◌}
+use mathlib.Core.Path.{◌≡◌, refl}
 use mathlib.Core.Bool.{Bool, true, false, not}
 use native.Mathlib.Omega.{arith}
 use native.Mathlib.Numerals.{add-one}
-use borrow.Author.Tests.{not-true, not-false}
 use Rattle.words.specs.Choose.{choose}
 use Rattle.rules.specs.declared.Refusal.TheVariants.{OverLimit}
 use Rattle.rules.specs.Tables.{Tables}
-use Rattle.tables.specs.Entries.{Walked}
-use Rattle.rules.specs.Sound.{or_else, first, bad_unless, in_limits, check_limits}
+use Rattle.std.specs.Option.{option_or}
+use lib.ListN.{length}
+use Rattle.words.specs.Packed.{interval_count}
+use Rattle.words.specs.declared.Range.{Range}
+use Rattle.rules.specs.Sound.{or_else, first, bad_unless, leftovers, range_end, interval_good, register_good, bad_interval, bad_fixed, in_limits, check_limits}
 
 -- a computed test t takes one arm
 pub chosen : {A : Type 0} (t b : Bool) (x y : A) → t ≡ b → t ≡ true → x ≡ choose b x y
@@ -30,55 +32,48 @@ pub limits_over : (T : Tables) (t : Bool) → t ≡ in_limits T → t ≡ false 
 unfolding check_limits
 limits_over T t e f = not_chosen t (in_limits T) fine (Err OverLimit) e f
 
--- an entry by its test
-pub unless_good : (t : Bool) (k : ℕ) → t ≡ true → None ≡ bad_unless t k
-unless_good t k e = simp e
+-- what f finds first from i to hi: past an entry where it finds none,
+pub first_more : (f : ℕ → Option ℕ) (i hi : ℕ) → i < hi → f i ≡ None → first f i (hi - i) ≡ first f (i + 1) (hi - (i + 1))
+unfolding first
+first_more f i hi h e = let d : hi - i ≡ suc (hi - (i + 1)) = omega arith in rw (d, e, add-one i)
 
-pub unless_bad : (t : Bool) (k : ℕ) → t ≡ false → Some k ≡ bad_unless t k
-unless_bad t k e = simp e
+-- at the first where it finds one,
+pub first_here : (f : ℕ → Option ℕ) (i hi k : ℕ) → i < hi → f i ≡ Some k → first f i (hi - i) ≡ Some k
+unfolding first
+first_here f i hi k h e = let d : hi - i ≡ suc (hi - (i + 1)) = omega arith in rw (d, e)
 
--- the first of two finds
-pub else_bad : (a b : Option ℕ) (k : ℕ) → a ≡ Some k → Some k ≡ or_else a b
-else_bad a b k e = simp e
+-- and at the end
+pub first_none : (f : ℕ → Option ℕ) (i hi : ℕ) → hi ≤ i → first f i (hi - i) ≡ None
+unfolding first
+first_none f i hi h = let d : hi - i ≡ 0 = omega arith in rw d
 
--- a walk of the n entries from lo to hi
-module _ (f : ℕ → Option ℕ) (lo n hi : ℕ) where
-  pub walk_starts : hi ≡ lo + n → Walked f lo n hi lo
-  walk_starts e =
-      let d : hi - lo ≡ n = omega arith in
-      record { ends = e; from = omega arith; upto = omega arith; rest = rw d }
+-- the same of the entries that fail a test t
+module _ (t : ℕ → Bool) (i hi : ℕ) (h : i < hi) where
+  pub bad_more : true ≡ t i → first (λ k. bad_unless (t k) k) i (hi - i) ≡ first (λ k. bad_unless (t k) k) (i + 1) (hi - (i + 1))
+  bad_more e = first_more (λ k. bad_unless (t k) k) i hi h (rw (← e))
 
-  -- it goes on past a clean entry,
-  pub walk_more : (i : ℕ) → Walked f lo n hi i → i < hi → f i ≡ None → Walked f lo n hi (i + 1)
-  unfolding first
-  walk_more i w h e =
-      let d : hi - i ≡ suc (hi - (i + 1)) = omega arith in
-      let s : first f i (hi - i) ≡ first f (i + 1) (hi - (i + 1)) = rw (d, e, add-one i) in
-      record { ends = w.ends; from = omega arith; upto = omega arith; rest = w.rest ∙ s }
+  pub bad_here : false ≡ t i → first (λ k. bad_unless (t k) k) i (hi - i) ≡ Some i
+  bad_here e = first_here (λ k. bad_unless (t k) k) i hi i h (rw (← e))
 
-  -- stops at the first bad one,
-  pub walk_stops : (i k : ℕ) → Walked f lo n hi i → i < hi → f i ≡ Some k → Some k ≡ first f lo n
-  unfolding first
-  walk_stops i k w h e =
-      let d : hi - i ≡ suc (hi - (i + 1)) = omega arith in
-      let s : first f i (hi - i) ≡ Some k = rw (d, e) in
-      sym (w.rest ∙ s)
+-- a walk of a range to where it ends, and of a whole table
+pub find_in : (f : ℕ → Option ℕ) (q : Range) (e : ℕ) (r : Option ℕ) → e ≡ range_end q → r ≡ first f q.index (e - q.index) → r ≡ first f q.index q.count
+find_in f q e r h g = let d : e - q.index ≡ q.count = omega arith in rw d at g
 
-  -- or ends
-  pub walk_ends : (i : ℕ) → Walked f lo n hi i → hi ≤ i → None ≡ first f lo n
-  unfolding first
-  walk_ends i w h =
-      let d : hi - i ≡ 0 = omega arith in
-      let s : first f i (hi - i) ≡ None = rw d in
-      sym (w.rest ∙ s)
+pub find_all : (f : ℕ → Option ℕ) (n m : ℕ) (r : Option ℕ) → n ≡ m → r ≡ first f 0 (n - 0) → r ≡ first f 0 m
+find_all f n m r h g = let d : n - 0 ≡ m = omega arith in rw d at g
 
--- a walk of a whole table
-pub whole_starts : (f : ℕ → Option ℕ) (n : ℕ) → Walked f 0 n n 0
-whole_starts f n = walk_starts f 0 n n (omega arith)
+-- the first of two finds is the library's `or`
+pub either : (a b : Option ℕ) → option_or a b ≡ or_else a b
+either None b = refl
+either (Some k) b = refl
 
--- an entry's find by its test, computed as t; code turns back where `not t`
-pub test_clean : (t b : Bool) (k : ℕ) → t ≡ b → not t ≡ false → bad_unless b k ≡ None
-test_clean t b k e f = simp (← e, not-false t f)
+-- checks 5 and 8: the first bad entry, else what is left over
+pub intervals_found : (T : Tables) (n : ℕ) (a b c d r : Option ℕ) → n ≡ interval_count T.intervals → a ≡ first (λ v. bad_unless (interval_good T v) v) 0 (n - 0)
+    → b ≡ leftovers n (length T.mentions) → c ≡ leftovers n (length T.safepoints) → d ≡ option_or b c → r ≡ option_or a d → r ≡ bad_interval T
+unfolding bad_interval
+intervals_found T n a b c d r e f g h k m = rw (← (find_all _ n _ a e f), ← e, ← g, ← h, ← (either b c), ← k, ← (either a d)) m
 
-pub test_bad : (t b : Bool) (k : ℕ) → t ≡ b → not t ≡ true → bad_unless b k ≡ Some k
-test_bad t b k e f = simp (← e, not-true t f)
+pub fixed_found : (T : Tables) (a b r : Option ℕ) → a ≡ first (λ r. bad_unless (register_good T r) r) 0 (length T.registers - 0)
+    → b ≡ leftovers (length T.registers) (length T.fragments) → r ≡ option_or a b → r ≡ bad_fixed T
+unfolding bad_fixed
+fixed_found T a b r e f g = rw (← (find_all _ _ _ a refl e), ← f, ← (either a b)) g

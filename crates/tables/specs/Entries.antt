@@ -1,11 +1,11 @@
 -- Facts for contracts: document 01's tests of one entry, said of the entry and of what the walk of its table carries.
-use Rattle.std.specs.Prelude.{ℕ, ◌+◌, ◌-◌, ◌*◌, ◌≤◌, ◌<◌, ◌≡◌, List, [], length, get_or, take, drop, Bool, ◌&&◌, ◌||◌, ltb, leb, eqb, Option}
+use Rattle.std.specs.Prelude.{ℕ, ◌+◌, ◌-◌, ◌*◌, ◌≤◌, ◌<◌, ◌≡◌, List, length, get_or, take, drop, Bool, ◌&&◌, ◌||◌, ltb, leb, eqb, Option}
 use Rattle.words.specs.declared.Range.{Range}
 use Rattle.words.specs.declared.Interval.{Interval}
 use Rattle.rules.specs.Sound.{first, count_sum, range_end, end_before, ends_before, fragments_good, bad_unless, mention_good, safepoint_good}
 use Rattle.words.specs.Packed.{interval_at, interval_count, fragment_in, mention_in}
 use Rattle.tables.specs.declared.Ends.{Ends}
-use Rattle.tables.specs.Given.{mention_tables, safepoint_tables}
+use Rattle.rules.specs.Tables.{Tables}
 use Rattle.rules.specs.Accepted.{InRange}
 
 -- range r continues those that end at `before` inside a table of len entries; more ranges follow, or it ends there
@@ -34,8 +34,8 @@ pub record EndsBefore (intervals : List ℕ) (v : ℕ) (e : Ends) : Type 0 where
   pub safepoints : e.safepoints ≡ end_before (λ k. (interval_at intervals k).safepoints) v
 
 -- the mentions of every interval lie in the table
-pub record Ranged (intervals mentions : List ℕ) : Type 0 where
-  pub inside : (v : ℕ) → v < interval_count intervals → range_end (interval_at intervals v).mentions ≤ length mentions
+pub record Ranged (T : Tables) : Type 0 where
+  pub inside : (v : ℕ) → v < interval_count T.intervals → range_end (interval_at T.intervals v).mentions ≤ length T.mentions
 
 -- the words from a on, up to e
 abbrev pub between : ℕ → ℕ → List ℕ → List ℕ
@@ -52,8 +52,8 @@ pub record Passed (limit : ℕ) (ws : List ℕ) (lo hi f : ℕ) : Type 0 where
   pub rest : fragments_good limit (between lo hi ws) ≡ fragments_good limit (between f hi ws)
 
 -- what the mentions of interval i are found to be
-abbrev pub mention_find : List ℕ → Interval → Option ℕ
-mention_find ms i = first (λ j. bad_unless (mention_good (mention_tables [] ms) i j) j) i.mentions.index i.mentions.count
+abbrev pub mention_find : Tables → Interval → Option ℕ
+mention_find T i = first (λ j. bad_unless (mention_good T i j) j) i.mentions.index i.mentions.count
 
 -- the mentions of range q lie in the table, their instructions strictly ascending
 pub record Ascending (ms : List ℕ) (q : Range) : Type 0 where
@@ -61,10 +61,10 @@ pub record Ascending (ms : List ℕ) (q : Range) : Type 0 where
   pub up : (j k : ℕ) → InRange q j → InRange q k → j < k → (mention_in (get_or ms j 0)).instruction < (mention_in (get_or ms k 0)).instruction
 
 -- every interval has such mentions, and its safepoints in the table
-pub record Placed (is ms ss : List ℕ) : Type 0 where
-  pub mentions : (v : ℕ) → v < interval_count is → Ascending ms (interval_at is v).mentions
-  pub safepoints : (v : ℕ) → v < interval_count is → range_end (interval_at is v).safepoints ≤ length ss
+pub record Placed (T : Tables) : Type 0 where
+  pub mentions : (v : ℕ) → v < interval_count T.intervals → Ascending T.mentions (interval_at T.intervals v).mentions
+  pub safepoints : (v : ℕ) → v < interval_count T.intervals → range_end (interval_at T.intervals v).safepoints ≤ length T.safepoints
 
 -- what the safepoints of interval i are found to be
-abbrev pub safepoint_find : List ℕ → List ℕ → Interval → Option ℕ
-safepoint_find ms ss i = first (λ j. bad_unless (safepoint_good (safepoint_tables [] ms ss) i j) j) i.safepoints.index i.safepoints.count
+abbrev pub safepoint_find : Tables → Interval → Option ℕ
+safepoint_find T i = first (λ j. bad_unless (safepoint_good T i j) j) i.safepoints.index i.safepoints.count

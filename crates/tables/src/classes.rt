@@ -1,10 +1,11 @@
 // 4: class bad.
-ghost use Rattle.std.specs.Prelude.{◌≡◌, ◌+◌, ◌<◌, ◌≤◌, length};
+ghost use Rattle.std.specs.Prelude.{◌≡◌, ◌<◌, ◌≤◌, length};
+ghost use Rattle.rules.specs.Lent.{tables_of};
 ghost use Rattle.rules.specs.Sound.{scratch_good, class_good, bad_class};
-ghost use Rattle.tables.specs.Given.{class_tables};
 ghost use Rattle.tables.specs.Entries.{Summed};
 
 use crate::read;
+use rules::Tables;
 use words::Class;
 
 fn scratch_good(c: Class) -> bool
@@ -12,39 +13,37 @@ fn scratch_good(c: Class) -> bool
 {
     if 0 < c.count {
         c.scratched
-            & (c.first <= c.scratch)
-            & ((c.scratch as u32) < c.first as u32 + c.count as u32)
+            && c.first <= c.scratch
+            && (c.scratch as u32) < c.first as u32 + c.count as u32
     } else {
-        !c.scratched & (c.scratch == 0)
+        !c.scratched && c.scratch == 0
     }
 }
 
 // Class k, where `sum` is the sum of the counts before it: with its own count that is the sum of all if it is the last.
-fn class_good(classes: &[u32], registers: &[u32], k: usize, sum: usize) -> bool
-    requires { (k < length classes.now) × (length classes.now ≤ 8) × (Summed classes.now k sum) }
-    ensures { result ≡ class_good (class_tables classes.now registers.now) k }
+fn class_good(tables: &Tables, k: usize, sum: usize) -> bool
+    requires { (k < length tables.now.classes.now) × (length tables.now.classes.now ≤ 8) × (Summed tables.now.classes.now k sum) }
+    ensures { result ≡ class_good (tables_of tables.now) k }
 {
-    let c = read::class_at(classes, k);
+    let c = read::class_at(tables.classes, k);
     let all = sum + c.count as usize;
-    (c.spare == 0)
-        & (c.first as usize == sum)
-        & scratch_good(c)
-        & ((k + 1 < classes.len()) | (all == registers.len()))
+    c.spare == 0
+        && c.first as usize == sum
+        && scratch_good(c)
+        && (k + 1 < tables.classes.len() || all == tables.registers.len())
 }
 
-pub(crate) fn bad_class(classes: &[u32], registers: &[u32]) -> Option<u16>
-    requires { length classes.now ≤ 8 }
-    ensures { result ≡ bad_class (class_tables classes.now registers.now) }
+pub(crate) fn bad_class(tables: &Tables) -> Option<u16>
+    requires { length tables.now.classes.now ≤ 8 }
+    ensures { result ≡ bad_class (tables_of tables.now) }
 {
     let mut sum: usize = 0;
-    let mut k = 0;
-    while k < classes.len() {
-        if !class_good(classes, registers, k, sum) {
+    for k in 0..tables.classes.len() {
+        if !class_good(tables, k, sum) {
             return Some(k as u16);
         }
-        let c = read::class_at(classes, k);
+        let c = read::class_at(tables.classes, k);
         sum += c.count as usize;
-        k += 1;
     }
     None
 }

@@ -1,11 +1,12 @@
 // 8: fixed table bad.
-ghost use Rattle.std.specs.Prelude.{◌≡◌, ◌+◌, ◌-◌, ◌*◌, ◌<◌, ◌≤◌, length, get_or};
+ghost use Rattle.std.specs.Prelude.{◌≡◌, ◌+◌, ◌<◌, ◌≤◌, length, get_or};
 ghost use Rattle.words.specs.Packed.{register_at};
-ghost use Rattle.rules.specs.Sound.{first, bad_unless, end_before, fragments_good, register_good, bad_fixed};
-ghost use Rattle.tables.specs.Given.{fixed_tables};
+ghost use Rattle.rules.specs.Lent.{tables_of};
+ghost use Rattle.rules.specs.Sound.{end_before, fragments_good, register_good, bad_fixed};
 ghost use Rattle.tables.specs.Entries.{fragment_good, between};
 
-use crate::{read, tests};
+use crate::{read, tests, walk};
+use rules::Tables;
 
 // Where the fragments of the register before register r end.
 fn end_before(registers: &[u32], r: usize) -> usize
@@ -24,10 +25,10 @@ fn fragment_good(limit: u32, fragments: &[u32], f: usize, end: usize) -> bool
     ensures { result ≡ fragment_good limit (get_or fragments.now f 0) (between (f + 1) end fragments.now) }
 {
     let a = read::fragment_at(fragments, f);
-    let good = (a.first <= a.last) & ((a.last as u32) < limit);
+    let good = a.first <= a.last && (a.last as u32) < limit;
     if f + 1 < end {
         let b = read::fragment_at(fragments, f + 1);
-        return good & (a.last < b.first);
+        return good && a.last < b.first;
     }
     good
 }
@@ -36,49 +37,33 @@ fn fragments_good(limit: u32, fragments: &[u32], from: usize, end: usize) -> boo
     requires { (from ≤ end) × (end ≤ length fragments.now) }
     ensures { result ≡ fragments_good limit (between from end fragments.now) }
 {
-    let mut f = from;
-    while f < end {
+    for f in from..end {
         if !fragment_good(limit, fragments, f, end) {
             return false;
         }
-        f += 1;
     }
     true
 }
 
-fn register_good(instructions: u32, registers: &[u32], fragments: &[u32], r: usize) -> bool
-    requires { (instructions ≤ 32768) × (r < length registers.now) }
-    ensures { result ≡ register_good (fixed_tables instructions registers.now fragments.now) r }
+fn register_good(tables: &Tables, r: usize) -> bool
+    requires { (tables.now.instructions ≤ 32768) × (r < length tables.now.registers.now) }
+    ensures { result ≡ register_good (tables_of tables.now) r }
 {
-    let limit = 2 * instructions;
-    let more = r + 1 < registers.len();
-    let before = end_before(registers, r);
-    let q = read::register_at(registers, r);
-    if !tests::range_good(q, before, more, fragments.len()) {
+    let more = r + 1 < tables.registers.len();
+    let before = end_before(tables.registers, r);
+    let q = read::register_at(tables.registers, r);
+    if !tests::range_good(q, before, more, tables.fragments.len()) {
         return false;
     }
     let end = tests::range_end(q);
-    fragments_good(limit, fragments, q.index as usize, end)
+    fragments_good(2 * tables.instructions, tables.fragments, q.index as usize, end)
 }
 
-fn first_register(instructions: u32, registers: &[u32], fragments: &[u32]) -> Option<u16>
-    requires { (instructions ≤ 32768) × (length registers.now ≤ 64) }
-    ensures { result ≡ first (λ r. bad_unless (register_good (fixed_tables instructions registers.now fragments.now) r) r) 0 (length registers.now) }
+pub(crate) fn bad_fixed(tables: &Tables) -> Option<u16>
+    requires { (tables.now.instructions ≤ 32768) × (length tables.now.registers.now ≤ 64) }
+    ensures { result ≡ bad_fixed (tables_of tables.now) }
 {
-    let mut r = 0;
-    while r < registers.len() {
-        if !register_good(instructions, registers, fragments, r) {
-            return Some(r as u16);
-        }
-        r += 1;
-    }
-    None
-}
-
-pub(crate) fn bad_fixed(instructions: u32, registers: &[u32], fragments: &[u32]) -> Option<u16>
-    requires { (instructions ≤ 32768) × (length registers.now ≤ 64) }
-    ensures { result ≡ bad_fixed (fixed_tables instructions registers.now fragments.now) }
-{
-    let bad = first_register(instructions, registers, fragments);
-    tests::or_else(bad, tests::left_over(registers.len(), fragments.len()))
+    let n = tables.registers.len();
+    let unused = tests::left_over(n, tables.fragments.len());
+    walk::first_bad(0, n, |r| register_good(tables, r)).or(unused)
 }

@@ -10,6 +10,7 @@ mod mentions;
 pub mod read;
 mod safepoints;
 mod tests;
+mod walk;
 
 // Where the mentions and the safepoints of an interval end.
 #[derive(Clone, Copy)]

@@ -1,10 +1,10 @@
 // 3: a count exceeds its limit, no class, or interval words not a multiple of 4.
 ghost use Rattle.std.specs.Prelude.{◌≡◌};
+ghost use Rattle.rules.specs.Lent.{tables_of};
 ghost use Rattle.rules.specs.Sound.{in_limits, check_limits};
-ghost use Rattle.tables.specs.Given.{tables};
 
 use crate::read;
-use rules::Refusal;
+use rules::{Refusal, Tables};
 
 const INSTRUCTIONS: u32 = 32768;
 
@@ -20,47 +20,23 @@ const MENTIONS: usize = 16384;
 
 const SAFEPOINTS: usize = 16384;
 
-fn in_limits(
-    instructions: u32,
-    classes: &[u32],
-    registers: &[u32],
-    fragments: &[u32],
-    intervals: &[u32],
-    mentions: &[u32],
-    safepoints: &[u32],
-) -> bool
-    ensures { result ≡ in_limits (tables instructions classes.now registers.now fragments.now intervals.now mentions.now safepoints.now) }
+fn in_limits(tables: &Tables) -> bool
+    ensures { result ≡ in_limits (tables_of tables.now) }
 {
-    (instructions <= INSTRUCTIONS)
-        & ((1 <= classes.len()) & (classes.len() <= CLASSES))
-        & (registers.len() <= REGISTERS)
-        & (fragments.len() <= FRAGMENTS)
-        & (intervals.len() / read::INTERVAL_WORDS <= INTERVALS)
-        & (mentions.len() <= MENTIONS)
-        & (safepoints.len() <= SAFEPOINTS)
-        & (intervals.len() % read::INTERVAL_WORDS == 0)
+    tables.instructions <= INSTRUCTIONS
+        && (1..=CLASSES).contains(&tables.classes.len())
+        && tables.registers.len() <= REGISTERS
+        && tables.fragments.len() <= FRAGMENTS
+        && read::interval_count(tables.intervals) <= INTERVALS
+        && tables.mentions.len() <= MENTIONS
+        && tables.safepoints.len() <= SAFEPOINTS
+        && tables.intervals.len() % read::INTERVAL_WORDS == 0
 }
 
-pub(crate) fn check_limits(
-    instructions: u32,
-    classes: &[u32],
-    registers: &[u32],
-    fragments: &[u32],
-    intervals: &[u32],
-    mentions: &[u32],
-    safepoints: &[u32],
-) -> Result<(), Refusal>
-    ensures { result ≡ check_limits (tables instructions classes.now registers.now fragments.now intervals.now mentions.now safepoints.now) }
+pub(crate) fn check_limits(tables: &Tables) -> Result<(), Refusal>
+    ensures { result ≡ check_limits (tables_of tables.now) }
 {
-    if in_limits(
-        instructions,
-        classes,
-        registers,
-        fragments,
-        intervals,
-        mentions,
-        safepoints,
-    ) {
+    if in_limits(tables) {
         Ok(())
     } else {
         Err(Refusal::OverLimit)

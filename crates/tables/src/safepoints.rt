@@ -1,12 +1,13 @@
 // 7: safepoint bad, interval by interval.
-ghost use Rattle.std.specs.Prelude.{◌≡◌, [], ◌+◌, ◌*◌, ◌<◌, ◌≤◌, length, get_or};
+ghost use Rattle.std.specs.Prelude.{◌≡◌, ◌<◌, ◌≤◌, length, get_or};
 ghost use Rattle.words.specs.Points.{use_point};
 ghost use Rattle.words.specs.Packed.{part};
+ghost use Rattle.rules.specs.Lent.{tables_of};
 ghost use Rattle.rules.specs.Sound.{every, ascends, range_end, not_used_alone, safepoint_good, bad_safepoint};
-ghost use Rattle.tables.specs.Given.{safepoint_tables};
 ghost use Rattle.tables.specs.Entries.{Ascending, Placed, safepoint_find};
 
-use crate::{read, tests};
+use crate::{read, tests, walk};
+use rules::Tables;
 use seek;
 use words::{Interval, Range};
 
@@ -37,59 +38,39 @@ fn never_alone(q: Range, mentions: &[u32], s: u32) -> bool
     ensures { result ≡ every (not_used_alone s) (part q mentions.now) }
 {
     let end = tests::range_end(q);
-    let k = seek::lower(
-        mentions,
-        q.index as usize,
-        end,
-        s as u64 * BELOW_INSTRUCTION,
-    );
+    let k = seek::lower(mentions, q.index as usize, end, s as u64 * BELOW_INSTRUCTION);
     if end <= k {
         return true;
     }
     let m = read::mention_at(mentions, k);
-    !((m.instruction as u32 == s) & m.uses) | (m.mods | m.defs)
+    !(m.instruction as u32 == s && m.uses) || m.mods || m.defs
 }
 
-fn safepoint_good(i: Interval, mentions: &[u32], safepoints: &[u32], j: usize) -> bool
-    requires { (j < length safepoints.now) × (Ascending mentions.now i.mentions) }
-    ensures { result ≡ safepoint_good (safepoint_tables [] mentions.now safepoints.now) i j }
+fn safepoint_good(tables: &Tables, i: Interval, j: usize) -> bool
+    requires { (j < length tables.now.safepoints.now) × (Ascending tables.now.mentions.now i.mentions) }
+    ensures { result ≡ safepoint_good (tables_of tables.now) i j }
 {
-    let s = safepoints[j];
-    let q = i.mentions;
-    let r = i.safepoints;
-    let rises = i.reference & safepoint_rises(safepoints, r, j);
-    rises & tests::is_within(i.start, i.end, use_of(s)) & never_alone(q, mentions, s)
+    let s = tables.safepoints[j];
+    i.reference
+        && safepoint_rises(tables.safepoints, i.safepoints, j)
+        && tests::is_within(i.start, i.end, use_of(s))
+        && never_alone(i.mentions, tables.mentions, s)
 }
 
 // The first bad safepoint of an interval.
-fn first_safepoint(i: Interval, mentions: &[u32], safepoints: &[u32]) -> Option<u16>
-    requires { (range_end i.safepoints ≤ length safepoints.now) × (length safepoints.now ≤ 16384) × (Ascending mentions.now i.mentions) }
-    ensures { result ≡ safepoint_find mentions.now safepoints.now i }
+fn first_safepoint(tables: &Tables, i: Interval) -> Option<u16>
+    requires { (range_end i.safepoints ≤ length tables.now.safepoints.now) × (length tables.now.safepoints.now ≤ 16384) × (Ascending tables.now.mentions.now i.mentions) }
+    ensures { result ≡ safepoint_find (tables_of tables.now) i }
 {
-    let r = i.safepoints;
-    let end = tests::range_end(r);
-    let mut j = r.index as usize;
-    while j < end {
-        if !safepoint_good(i, mentions, safepoints, j) {
-            return Some(j as u16);
-        }
-        j += 1;
-    }
-    None
+    let end = tests::range_end(i.safepoints);
+    walk::first_bad(i.safepoints.index as usize, end, |j| safepoint_good(tables, i, j))
 }
 
-pub(crate) fn bad_safepoint(intervals: &[u32], mentions: &[u32], safepoints: &[u32]) -> Option<u16>
-    requires { (Placed intervals.now mentions.now safepoints.now) × (length safepoints.now ≤ 16384) }
-    ensures { result ≡ bad_safepoint (safepoint_tables intervals.now mentions.now safepoints.now) }
+pub(crate) fn bad_safepoint(tables: &Tables) -> Option<u16>
+    requires { (Placed (tables_of tables.now)) × (length tables.now.safepoints.now ≤ 16384) }
+    ensures { result ≡ bad_safepoint (tables_of tables.now) }
 {
-    let n = intervals.len() / read::INTERVAL_WORDS;
-    let mut v = 0;
-    while v < n {
-        let i = read::interval_at(intervals, v);
-        if let Some(j) = first_safepoint(i, mentions, safepoints) {
-            return Some(j);
-        }
-        v += 1;
-    }
-    None
+    walk::first_found(0, read::interval_count(tables.intervals), |v| {
+        first_safepoint(tables, read::interval_at(tables.intervals, v))
+    })
 }

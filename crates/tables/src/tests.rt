@@ -1,7 +1,7 @@
 // The tests that several checks share.
-ghost use Rattle.std.specs.Prelude.{◌≡◌, ◌+◌, ◌<◌};
+ghost use Rattle.std.specs.Prelude.{◌≡◌};
 ghost use Rattle.words.specs.Points.{within};
-ghost use Rattle.rules.specs.Sound.{or_else, range_end, leftovers};
+ghost use Rattle.rules.specs.Sound.{range_end, leftovers};
 ghost use Rattle.tables.specs.Entries.{range_fits};
 
 use words::Range;
@@ -13,7 +13,7 @@ const NOWHERE: u16 = 65535;
 pub(crate) fn is_within(a: u16, e: u16, p: u64) -> bool
     ensures { result ≡ within a e p }
 {
-    (a as u64 <= p) & (p <= e as u64)
+    (a as u64..=e as u64).contains(&p)
 }
 
 pub(crate) fn range_end(r: Range) -> usize
@@ -26,25 +26,16 @@ pub(crate) fn range_end(r: Range) -> usize
 pub(crate) fn range_good(r: Range, before: usize, more: bool, len: usize) -> bool
     ensures { result ≡ range_fits r before more len }
 {
-    let end = r.index as usize + r.count as usize;
-    (r.index as usize == before) & (end <= len) & (more | (end == len))
+    let end = range_end(r);
+    r.index as usize == before && end <= len && (more || end == len)
 }
 
 pub(crate) fn left_over(n: usize, len: usize) -> Option<u16>
     ensures { result ≡ leftovers n len }
 {
-    if (0 < n) | (len == 0) {
+    if 0 < n || len == 0 {
         None
     } else {
         Some(NOWHERE)
-    }
-}
-
-pub(crate) fn or_else(a: Option<u16>, b: Option<u16>) -> Option<u16>
-    ensures { result ≡ or_else a b }
-{
-    match a {
-        None => b,
-        Some(k) => Some(k),
     }
 }

@@ -1,8 +1,8 @@
--- `tables::classes::class_good` meets its contract: with the last count the running sum is the sum of all.
+-- `tables::classes::class_good` meets its contract: the counts up to the last class are the counts of all.
 -- Assumes nothing.
-use Rattle.tables.proofs.ClassLaws.{class_good_by}
-use borrow.Author.Rules.{rules}
+use Rattle.std.proofs.Common.{arith}
+use Rattle.tables.proofs.ClassLaws.{sum_of_all}
 use Rattle.tables.proofs.classes.class_good.Goals as goal
 
-pub returns : goal.returns
-returns c = search (rules, class_good_by)
+pub returns-else-k-tables : goal.returns-else-k-tables
+returns-else-k-tables c = let e = sum_of_all _ _ _ _ c.requires.0 c.if-k-tables.false c.requires.2 c.class_at-c.ensures in grind (arith, e)

@@ -1,11 +1,7 @@
 -- `tables::fixed::fragments_good` meets its contract: the walk stops at the first bad fragment.
 -- Assumes nothing.
-use Prim.Native.Nat.{◌-◌}
 use Rattle.tables.specs.Entries.{Passed}
 use Rattle.tables.proofs.fixed.fragments_good.Given as goal
 
 abbrev pub invariant-loop-f : goal.invariant-loop-f
 invariant-loop-f l = Passed l.limit l.fragments l.initial.f l.end l.f
-
-abbrev pub decreases-loop-f : goal.decreases-loop-f
-decreases-loop-f l = l.end - l.f

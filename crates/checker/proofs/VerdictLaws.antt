@@ -7,10 +7,9 @@ use borrow.Author.Tests.{lt-ltb, le-ltb}
 use native.Mathlib.Omega.{arith}
 use native.Mathlib.Decide.{dec_lt}
 use lib.ListN.{length}
-use Rattle.rules.specs.declared.Answer.{Answer}
-use Rattle.rules.specs.declared.Answer.TheVariants.{OverLimit}
-use Rattle.rules.specs.declared.Check.{Check}
-use Rattle.rules.specs.declared.Check.TheVariants.{Fine, Refused}
+use Rattle.rules.specs.declared.Refusal.{Refusal}
+use Rattle.rules.specs.declared.Refusal.TheVariants.{OverLimit}
+use Rattle.rules.specs.Answers.{Answer, Check, fine}
 use Rattle.rules.specs.Tables.{Tables}
 use Rattle.rules.specs.Sound.{check_tables}
 use Rattle.rules.specs.Placement.{Claim, Rule}
@@ -122,16 +121,16 @@ module _ (T : Tables) (c : Claim) where
     unfolding check_all check_claim
     by_tables = simp (le-ltb 16384 c.count f, le-ltb (length c.words) (c.count * 2) t)
 
-    pub tables_refused : (k : Check) (a : Answer) → k ≡ check_tables T → k ≡ Refused a → Checks T c a
+    pub tables_refused : (k : Check) (a : Refusal) → k ≡ check_tables T → k ≡ Err a → Checks T c (Err a)
     tables_refused k a e q = refused a (by_tables ∙ sym e ∙ q)
 
     -- and the rules, where these are sound
-    pub answered : (k : Check) (v : Result (Unit {0}) Broken) (r : Answer) → k ≡ check_tables T → k ≡ Fine → Judges T c v → r ≡ answer_of v c.count c.total → Checks T c r
+    pub answered : (k : Check) (v : Result (Unit {0}) Broken) (r : Answer) → k ≡ check_tables T → k ≡ fine → Judges T c v → r ≡ answer_of v c.count c.total → Checks T c r
     answered k v r e q j a = rw a (go v j)
       where
-        fine : check_all T c ≡ Fine
-        fine = by_tables ∙ sym e ∙ q
+        passes : check_all T c ≡ fine
+        passes = by_tables ∙ sym e ∙ q
 
         go : (v : Result (Unit {0}) Broken) → Judges T c v → Checks T c (answer_of v c.count c.total)
-        go (Ok _) j = accepted fine j
-        go (Err b) j = broken b.rule fine j.some j.most j.below j.breaks
+        go (Ok _) j = accepted passes j
+        go (Err b) j = broken b.rule passes j.some j.most j.below j.breaks

@@ -1,8 +1,8 @@
 -- Facts for contracts: what the rules' tests need of sound tables, and what they come to. What must be answered is `Checks` of rules.
 use Rattle.std.specs.Prelude.{ℕ, ◌+◌, ◌*◌, ◌<◌, ◌≤◌, List, length, Result, Ok, Err}
 use Rattle.words.specs.Packed.{class_at, interval_count}
-use Rattle.rules.specs.declared.Answer.{Answer}
-use Rattle.rules.specs.declared.Answer.TheVariants.{Done, BrokenRule}
+use Rattle.rules.specs.declared.Refusal.TheVariants.{BrokenRule}
+use Rattle.rules.specs.Answers.{Answer, done}
 use Rattle.rules.specs.Tables.{Tables}
 use Rattle.rules.specs.Accepted.{interval}
 use Rattle.rules.specs.Placement.{Claim, Rule}

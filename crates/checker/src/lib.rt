@@ -3,14 +3,14 @@
 
 ghost use Rattle.std.specs.Prelude.{◌≡◌, ℕ, ◌+◌, ◌*◌, ◌<◌, ◌≤◌, length};
 ghost use Rattle.rules.specs.Checker.{HoldBelow, Checks};
-ghost use Rattle.tables.specs.Given.{tables};
+ghost use Rattle.rules.specs.Lent.{claim_of, tables_of};
 ghost use Rattle.checker_rules.specs.Order.{Empty, Linked};
 ghost use Rattle.checker.specs.Verdict.{claim, Ready, Judges, answer_of};
 
 use checker_rules::entries::{RECORD_WORDS, Records, Seats};
 use checker_rules::order::Order;
 use checker_rules::{rule1, rule2, rule3, rule4, rule5, rule6, rule7};
-use rules::{Answer, Check};
+use rules::{Claim, Done, Refusal, Tables};
 use tables::check;
 
 const MOST_RECORDS: u32 = 16384;
@@ -26,41 +26,38 @@ pub struct Broken {
 
 // Rules 4 to 7, where 1 to 3 hold.
 fn last_four<'a>(
-    instructions: u32,
-    classes: &[u32],
-    registers: &[u32],
-    fragments: &[u32],
-    intervals: &'a [u32],
-    mentions: &[u32],
-    safepoints: &[u32],
+    tables: &Tables<'a>,
     records: Records<'a>,
     total: u32,
     head: &mut [u16],
     next: &'a [u16],
 ) -> Result<(), Broken>
-    requires ready { Ready (tables instructions classes.now registers.now fragments.now intervals.now mentions.now safepoints.now) (claim records.words.now records.count total) }
-    requires held { HoldBelow (tables instructions classes.now registers.now fragments.now intervals.now mentions.now safepoints.now) (claim records.words.now records.count total) 4 }
+    requires ready { Ready (tables_of tables.now) (claim records.words.now records.count total) }
+    requires held { HoldBelow (tables_of tables.now) (claim records.words.now records.count total) 4 }
     requires chains { (65544 ≤ length head.old) × (Linked records.words.now records.count head.old next.now) }
-    ensures { Judges (tables instructions classes.now registers.now fragments.now intervals.now mentions.now safepoints.now) (claim records.entry.words.now records.entry.count total) result }
+    ensures { Judges (tables_of tables.now) (claim records.entry.words.now records.entry.count total) result }
 {
     let order = Order {
         records,
         head: &head[..],
         next,
-        points: instructions as usize * 2,
+        points: tables.instructions as usize * 2,
     };
     if !rule4::rule4(order) {
         return Err(Broken { rule: 4 });
     }
-    if !rule5::rule5(records, registers, fragments) {
+    if !rule5::rule5(records, tables.registers, tables.fragments) {
         return Err(Broken { rule: 5 });
     }
     rule6::disown(head);
-    let seats = Seats { records, intervals };
+    let seats = Seats {
+        records,
+        intervals: tables.intervals,
+    };
     if !rule6::rule6(seats, head, total) {
         return Err(Broken { rule: 6 });
     }
-    if !rule7::rule7(seats, mentions, safepoints) {
+    if !rule7::rule7(seats, tables.mentions, tables.safepoints) {
         return Err(Broken { rule: 7 });
     }
     Ok(())
@@ -68,41 +65,32 @@ fn last_four<'a>(
 
 // Rules 1 to 3, and then the others. The tables of the order come empty.
 fn all_seven<'a>(
-    instructions: u32,
-    classes: &[u32],
-    registers: &[u32],
-    fragments: &[u32],
-    intervals: &'a [u32],
-    mentions: &[u32],
-    safepoints: &[u32],
+    tables: &Tables<'a>,
     records: Records<'a>,
     total: u32,
     head: &mut [u16],
     next: &mut [u16],
 ) -> Result<(), Broken>
-    requires ready { Ready (tables instructions classes.now registers.now fragments.now intervals.now mentions.now safepoints.now) (claim records.words.now records.count total) }
+    requires ready { Ready (tables_of tables.now) (claim records.words.now records.count total) }
     requires room { (65544 ≤ length head.old) × (16384 ≤ length next.old) × (Empty head.old) }
-    ensures { Judges (tables instructions classes.now registers.now fragments.now intervals.now mentions.now safepoints.now) (claim records.entry.words.now records.entry.count total) result }
+    ensures { Judges (tables_of tables.now) (claim records.entry.words.now records.entry.count total) result }
 {
-    let points = instructions as usize * 2;
-    if !rule1::rule1(records, intervals, points, head, next) {
+    let points = tables.instructions as usize * 2;
+    if !rule1::rule1(records, tables.intervals, points, head, next) {
         return Err(Broken { rule: 1 });
     }
-    let seats = Seats { records, intervals };
-    if !rule2::rule2(seats, mentions) {
+    let seats = Seats {
+        records,
+        intervals: tables.intervals,
+    };
+    if !rule2::rule2(seats, tables.mentions) {
         return Err(Broken { rule: 2 });
     }
-    if !rule3::rule3(seats, classes) {
+    if !rule3::rule3(seats, tables.classes) {
         return Err(Broken { rule: 3 });
     }
     last_four(
-        instructions,
-        classes,
-        registers,
-        fragments,
-        intervals,
-        mentions,
-        safepoints,
+        tables,
         records,
         total,
         head,
@@ -112,29 +100,17 @@ fn all_seven<'a>(
 
 // The verdict on a claim, the tables being sound.
 fn judge(
-    instructions: u32,
-    classes: &[u32],
-    registers: &[u32],
-    fragments: &[u32],
-    intervals: &[u32],
-    mentions: &[u32],
-    safepoints: &[u32],
+    tables: &Tables,
     records: Records,
     total: u32,
 ) -> Result<(), Broken>
-    requires { Ready (tables instructions classes.now registers.now fragments.now intervals.now mentions.now safepoints.now) (claim records.words.now records.count total) }
-    ensures { Judges (tables instructions classes.now registers.now fragments.now intervals.now mentions.now safepoints.now) (claim records.entry.words.now records.entry.count total) result }
+    requires { Ready (tables_of tables.now) (claim records.words.now records.count total) }
+    ensures { Judges (tables_of tables.now) (claim records.entry.words.now records.entry.count total) result }
 {
     let mut head = [0u16; HEAD_ENTRIES];
     let mut next = [0u16; MOST_RECORDS as usize];
     all_seven(
-        instructions,
-        classes,
-        registers,
-        fragments,
-        intervals,
-        mentions,
-        safepoints,
+        tables,
         records,
         total,
         &mut head,
@@ -143,59 +119,28 @@ fn judge(
 }
 
 // Accepted as done, or refused with the rule.
-fn answer(verdict: Result<(), Broken>, count: u32, total: u32) -> Answer
+fn answer(verdict: Result<(), Broken>, count: u32, total: u32) -> Result<Done, Refusal>
     ensures { result ≡ answer_of verdict count total }
 {
     match verdict {
-        Ok(()) => Answer::Done { count, total },
-        Err(broken) => Answer::BrokenRule(broken.rule),
+        Ok(()) => Ok(Done { count, total }),
+        Err(broken) => Err(Refusal::BrokenRule(broken.rule)),
     }
 }
 
 // 3 for a claim that is too long or beyond its slice, 3 to 8 for tables that are not sound, 14 with the lowest broken rule, else 1 with the claimed count and total.
-pub fn check(
-    instructions: u32,
-    classes: &[u32],
-    registers: &[u32],
-    fragments: &[u32],
-    intervals: &[u32],
-    mentions: &[u32],
-    safepoints: &[u32],
-    words: &[u32],
-    count: u32,
-    total: u32,
-) -> Answer
-    ensures { Checks (tables instructions classes.now registers.now fragments.now intervals.now mentions.now safepoints.now) (claim words.now count total) result }
+pub fn check(tables: &Tables, claim: &Claim) -> Result<Done, Refusal>
+    ensures { Checks (tables_of tables.now) (claim_of claim.now) result }
 {
-    if MOST_RECORDS < count || words.len() < count as usize * RECORD_WORDS {
-        return Answer::OverLimit;
+    let count = claim.count as usize;
+    if MOST_RECORDS < claim.count || claim.words.len() < count * RECORD_WORDS {
+        return Err(Refusal::OverLimit);
     }
-    let checked = check::check_tables(
-        instructions,
-        classes,
-        registers,
-        fragments,
-        intervals,
-        mentions,
-        safepoints,
-    );
-    if let Check::Refused(a) = checked {
-        return a;
-    }
+    check::check_tables(tables)?;
     let records = Records {
-        words,
-        count: count as usize,
+        words: claim.words,
+        count,
     };
-    let verdict = judge(
-        instructions,
-        classes,
-        registers,
-        fragments,
-        intervals,
-        mentions,
-        safepoints,
-        records,
-        total,
-    );
-    answer(verdict, count, total)
+    let verdict = judge(tables, records, claim.total);
+    answer(verdict, claim.count, claim.total)
 }

@@ -1,6 +1,8 @@
--- The tables of a call as they are lent: `Tables` of the code holds slices, `Tables` of the rules their words.
+-- The tables and the claim of a call as they are lent: those of the code hold slices, those of the rules their words.
 use Rattle.rules.specs.Tables.{Tables}
+use Rattle.rules.specs.Placement.{Claim}
 use Rattle.rules.specs.declared.Tables as lent
+use Rattle.rules.specs.declared.Claim as claimed
 
 abbrev pub tables_of : lent.Tables → Tables
 tables_of t =
@@ -13,3 +15,6 @@ tables_of t =
       mentions = t.mentions.now;
       safepoints = t.safepoints.now;
     }
+
+abbrev pub claim_of : claimed.Claim → Claim
+claim_of c = record { words = c.words.now; count = c.count; total = c.total }

@@ -1,5 +1,6 @@
 -- `check` meets its contract: the claim is looked at first, then the tables, then the rules.
 -- Assumes nothing.
+use Rattle.words.proofs.Residual.{passed}
 use Rattle.checker.proofs.VerdictLaws.{over_count, over_words, tables_refused, answered}
 use Rattle.checker.proofs.ReadyLaws.{ready}
 use Rattle.rules.proofs.Accepted.{accepted}
@@ -15,11 +16,11 @@ returns-then-count-gt-MOST_RECORDS c =
       | then-count-gt-MOST_RECORDS-via-else-count-gt-MOST_RECORDS+then-words-count w ↦ over_words _ _ w.if-count-gt-MOST_RECORDS.false w.if-words-count.true
     ]
 
-pub returns-in-Refused : goal.returns-in-Refused
-returns-in-Refused c = search tables_refused
+pub returns-in_err-check_tables : goal.returns-in_err-check_tables
+returns-in_err-check_tables c = rw (passed _ _ c.from_residual.ensures.1) (search (tables_refused, c.in_err-check_tables.was))
 
 pub judge-verdict-requires : goal.judge-verdict-requires
-judge-verdict-requires c = ready _ (accepted _ (sym c.check_tables-checked.ensures ∙ c.in_default.is)) _ c.if-count-gt-MOST_RECORDS.false c.if-words-count.false (λ i. omega (arith, c.type_inv.mentions i)) (λ i. omega (arith, c.type_inv.fragments i))
+judge-verdict-requires c = ready _ (accepted _ (sym c.check_tables.ensures ∙ c.in_ok-check_tables.was)) _ c.if-count-gt-MOST_RECORDS.false c.if-words-count.false (λ i. omega (arith, c.type_inv.mentions i)) (λ i. omega (arith, c.type_inv.fragments i))
 
 pub returns : goal.returns
-returns c = search answered
+returns c = search (answered, c.in_ok-check_tables.was)

@@ -1,7 +1,7 @@
 // The placement checker: whether a claim obeys the seven placement rules, for any tables and any claim. It shares the reading of tables and the checks at entry with the assigner, and nothing else.
 #![tactic(auto)]
 
-ghost use Rattle.std.specs.Prelude.{◌≡◌, ℕ, ◌+◌, ◌*◌, ◌<◌, ◌≤◌, length};
+ghost use Rattle.std.specs.Prelude.{◌≡◌, ℕ, ◌+◌, ◌*◌, ◌<◌, ◌≤◌, length, get_or};
 ghost use Rattle.rules.specs.Checker.{HoldBelow, Checks};
 ghost use Rattle.rules.specs.Lent.{claim_of, tables_of};
 ghost use Rattle.checker_rules.specs.Order.{Empty, Linked};
@@ -25,12 +25,12 @@ pub struct Broken {
 }
 
 // Rules 4 to 7, where 1 to 3 hold.
-fn last_four<'a>(
+fn last_four<'a, 'n>(
     tables: &Tables<'a>,
     records: Records<'a>,
     total: u32,
     head: &mut [u16],
-    next: &'a [u16],
+    next: &'n [u16],
 ) -> Result<(), Broken>
     requires ready { Ready (tables_of tables.now) (claim records.words.now records.count total) }
     requires held { HoldBelow (tables_of tables.now) (claim records.words.now records.count total) 4 }
@@ -89,33 +89,17 @@ fn all_seven<'a>(
     if !rule3::rule3(seats, tables.classes) {
         return Err(Broken { rule: 3 });
     }
-    last_four(
-        tables,
-        records,
-        total,
-        head,
-        &next[..],
-    )
+    last_four(tables, records, total, head, &next[..])
 }
 
 // The verdict on a claim, the tables being sound.
-fn judge(
-    tables: &Tables,
-    records: Records,
-    total: u32,
-) -> Result<(), Broken>
+fn judge(tables: &Tables, records: Records, total: u32) -> Result<(), Broken>
     requires { Ready (tables_of tables.now) (claim records.words.now records.count total) }
     ensures { Judges (tables_of tables.now) (claim records.entry.words.now records.entry.count total) result }
 {
     let mut head = [0u16; HEAD_ENTRIES];
     let mut next = [0u16; MOST_RECORDS as usize];
-    all_seven(
-        tables,
-        records,
-        total,
-        &mut head,
-        &mut next,
-    )
+    all_seven(tables, records, total, &mut head, &mut next)
 }
 
 // Accepted as done, or refused with the rule.
@@ -128,6 +112,12 @@ fn answer(verdict: Result<(), Broken>, count: u32, total: u32) -> Result<Done, R
     }
 }
 
+// Does nothing. Of a slice in a struct behind a reference the check forgets that its numbers are words.
+fn are_words(words: &[u32])
+    ensures { (i : ℕ) → get_or words.now i 0 < 4294967296 }
+{
+}
+
 // 3 for a claim that is too long or beyond its slice, 3 to 8 for tables that are not sound, 14 with the lowest broken rule, else 1 with the claimed count and total.
 pub fn check(tables: &Tables, claim: &Claim) -> Result<Done, Refusal>
     ensures { Checks (tables_of tables.now) (claim_of claim.now) result }
@@ -137,6 +127,8 @@ pub fn check(tables: &Tables, claim: &Claim) -> Result<Done, Refusal>
         return Err(Refusal::OverLimit);
     }
     check::check_tables(tables)?;
+    are_words(tables.mentions);
+    are_words(tables.fragments);
     let records = Records {
         words: claim.words,
         count,

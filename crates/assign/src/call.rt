@@ -1,11 +1,11 @@
 // The public call, and how a run's end is written out.
 ghost use Rattle.rules.specs.Call.{Assigned, run_for};
 ghost use Rattle.split.specs.Turns.{outcome_of};
-ghost use Rattle.tables.specs.Given.{tables};
-ghost use Rattle.assign.specs.Calling.{options, Allowed, Closing, Concluded};
+ghost use Rattle.rules.specs.Lent.{tables_of};
+ghost use Rattle.assign.specs.Calling.{Allowed, Closing, Concluded};
 
 use crate::{entry, run};
-use rules::{Done, Mode, Refusal};
+use rules::{Done, Mode, Options, Refusal, Strategy, Tables};
 use store::{Counts, area};
 
 // The records of a run that is done; zeros for one that was refused.
@@ -36,85 +36,35 @@ fn conclude(
 // The run, on tables and room that passed the checks.
 fn assign_checked(
     mode: Mode,
-    instructions: u32,
-    classes: &[u32],
-    registers: &[u32],
-    fragments: &[u32],
-    intervals: &[u32],
-    mentions: &[u32],
-    safepoints: &[u32],
+    tables: &Tables,
     res: &mut [u32],
     work: &mut [u32],
     cap: usize,
 ) -> Result<Done, Refusal>
-    requires { Allowed (tables instructions classes.now registers.now fragments.now intervals.now mentions.now safepoints.now) cap work.old res.old }
-    ensures { Concluded (run_for mode (tables instructions classes.now registers.now fragments.now intervals.now mentions.now safepoints.now) cap) res.old res.new result }
+    requires { Allowed (tables_of tables.now) cap work.old res.old }
+    ensures { Concluded (run_for mode (tables_of tables.now) cap) res.old res.new result }
 {
-    let begun = area::load(intervals, work, cap);
-    let ended = run::run(
-        mode,
-        instructions,
-        classes,
-        registers,
-        fragments,
-        intervals,
-        mentions,
-        safepoints,
-        work,
-        cap,
-        begun,
-    );
+    let begun = area::load(tables.intervals, work, cap);
+    let ended = run::run(mode, tables, work, cap, begun);
     conclude(work, res, ended, cap)
 }
 
-// Document 01's call: any words at all get an answer, and both areas hold what it says.
+// Any words at all get an answer, and both areas hold what it says.
 pub fn assign(
-    strategy: u32,
-    partial_split: bool,
-    partial_split_near_end: bool,
-    instructions: u32,
-    classes: &[u32],
-    registers: &[u32],
-    fragments: &[u32],
-    intervals: &[u32],
-    mentions: &[u32],
-    safepoints: &[u32],
+    options: Options,
+    tables: &Tables,
     res: &mut [u32],
     work: &mut [u32],
 ) -> Result<Done, Refusal>
-    ensures { Assigned (options strategy partial_split partial_split_near_end) (tables instructions classes.now registers.now fragments.now intervals.now mentions.now safepoints.now) res.old res.new work.old work.new result }
+    ensures { Assigned options (tables_of tables.now) res.old res.new work.old work.new result }
 {
-    let Some(known) = entry::strategy_of(strategy) else {
-        return Err(Refusal::BadStrategy);
-    };
+    let strategy = Strategy::try_from(options.strategy)?;
     let cap = entry::capacity_of(res);
-    entry::check(
-        instructions,
-        classes,
-        registers,
-        fragments,
-        intervals,
-        mentions,
-        safepoints,
-        cap,
-        work.len(),
-    )?;
+    entry::check(tables, cap, work.len())?;
     let mode = Mode {
-        strategy: known,
-        partial_split: partial_split,
-        partial_split_near_end: partial_split_near_end,
+        strategy,
+        partial_split: options.partial_split,
+        partial_split_near_end: options.partial_split_near_end,
     };
-    assign_checked(
-        mode,
-        instructions,
-        classes,
-        registers,
-        fragments,
-        intervals,
-        mentions,
-        safepoints,
-        res,
-        work,
-        cap,
-    )
+    assign_checked(mode, tables, res, work, cap)
 }

@@ -1,15 +1,13 @@
-// The two calls as C is to have them, the answer as four words. `temgurisk_c` exports them, and include/temgurisk.h declares them.
+// The two calls, their answers as four words. `temgurisk_c` exports them to C with flat parameters, and include/temgurisk.h declares them.
 #![tactic(auto)]
 
 ghost use Rattle.std.specs.Prelude.{◌≡◌, Err};
 ghost use Rattle.rules.specs.Call.{Assigned};
 ghost use Rattle.rules.specs.Checker.{Checks};
-ghost use Rattle.tables.specs.Given.{tables};
-ghost use Rattle.assign.specs.Calling.{options};
-ghost use Rattle.checker.specs.Verdict.{claim};
+ghost use Rattle.rules.specs.Lent.{claim_of, tables_of};
 ghost use Rattle.temgurisk.specs.Replies.{reply_of, Replied, Reviewed};
 
-use rules::{Done, Refusal};
+use rules::{Claim, Done, Options, Refusal, Tables};
 
 // An answer by document 01's numbers.
 #[repr(C)]
@@ -68,64 +66,19 @@ pub fn reply_of(answer: Result<Done, Refusal>) -> Reply
 
 // `assign::call::assign`, which says what both areas hold afterwards.
 pub fn temgurisk_assign(
-    strategy: u32,
-    partial_split: bool,
-    partial_split_near_end: bool,
-    instructions: u32,
-    classes: &[u32],
-    registers: &[u32],
-    fragments: &[u32],
-    intervals: &[u32],
-    mentions: &[u32],
-    safepoints: &[u32],
+    options: Options,
+    tables: &Tables,
     res: &mut [u32],
     work: &mut [u32],
 ) -> Reply
-    ensures { Replied (options strategy partial_split partial_split_near_end) (tables instructions classes.now registers.now fragments.now intervals.now mentions.now safepoints.now) res.old res.new work.old work.new result }
+    ensures { Replied options (tables_of tables.now) res.old res.new work.old work.new result }
 {
-    let answer = assign::call::assign(
-        strategy,
-        partial_split,
-        partial_split_near_end,
-        instructions,
-        classes,
-        registers,
-        fragments,
-        intervals,
-        mentions,
-        safepoints,
-        res,
-        work,
-    );
-    reply_of(answer)
+    reply_of(assign::call::assign(options, tables, res, work))
 }
 
 // `checker::check`, which writes nothing.
-pub fn temgurisk_check(
-    instructions: u32,
-    classes: &[u32],
-    registers: &[u32],
-    fragments: &[u32],
-    intervals: &[u32],
-    mentions: &[u32],
-    safepoints: &[u32],
-    words: &[u32],
-    count: u32,
-    total: u32,
-) -> Reply
-    ensures { Reviewed (tables instructions classes.now registers.now fragments.now intervals.now mentions.now safepoints.now) (claim words.now count total) result }
+pub fn temgurisk_check(tables: &Tables, claim: &Claim) -> Reply
+    ensures { Reviewed (tables_of tables.now) (claim_of claim.now) result }
 {
-    let answer = checker::check(
-        instructions,
-        classes,
-        registers,
-        fragments,
-        intervals,
-        mentions,
-        safepoints,
-        words,
-        count,
-        total,
-    );
-    reply_of(answer)
+    reply_of(checker::check(tables, claim))
 }

@@ -6,6 +6,7 @@ ghost use Rattle.assign.specs.Calling.{options};
 ghost use Rattle.checker.specs.Verdict.{claim};
 ghost use Rattle.temgurisk.specs.Replies.{Replied, Reviewed};
 
+use rules::{Claim, Options, Tables};
 use temgurisk::Reply;
 
 // `temgurisk::temgurisk_assign`, for C.
@@ -26,10 +27,12 @@ pub extern "C" fn temgurisk_assign(
 ) -> Reply
     ensures { Replied (options strategy partial_split partial_split_near_end) (tables instructions classes.now registers.now fragments.now intervals.now mentions.now safepoints.now) res.old res.new work.old work.new result }
 {
-    temgurisk::temgurisk_assign(
+    let options = Options {
         strategy,
         partial_split,
         partial_split_near_end,
+    };
+    let tables = Tables {
         instructions,
         classes,
         registers,
@@ -37,9 +40,8 @@ pub extern "C" fn temgurisk_assign(
         intervals,
         mentions,
         safepoints,
-        res,
-        work,
-    )
+    };
+    temgurisk::temgurisk_assign(options, &tables, res, work)
 }
 
 // `temgurisk::temgurisk_check`, for C.
@@ -58,7 +60,7 @@ pub extern "C" fn temgurisk_check(
 ) -> Reply
     ensures { Reviewed (tables instructions classes.now registers.now fragments.now intervals.now mentions.now safepoints.now) (claim words.now count total) result }
 {
-    temgurisk::temgurisk_check(
+    let tables = Tables {
         instructions,
         classes,
         registers,
@@ -66,8 +68,11 @@ pub extern "C" fn temgurisk_check(
         intervals,
         mentions,
         safepoints,
+    };
+    let claim = Claim {
         words,
         count,
         total,
-    )
+    };
+    temgurisk::temgurisk_check(&tables, &claim)
 }

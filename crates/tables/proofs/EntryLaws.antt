@@ -1,6 +1,5 @@
 -- Laws of the tests of one entry.
 -- Assumes nothing.
-use Rattle.std.specs.Prelude.{Option, None, Some}
 use Prim.Native.Nat.{ℕ, zero, suc, ◌+◌, ◌-◌, ◌*◌, ◌≤◌, ◌<◌}
 use mathlib.Core.Path.{◌≡◌, refl, sym, ap, ◌∙◌}
 use mathlib.Core.Bool.{Bool, true, false, ◌&&◌, ◌||◌, not, and-true}
@@ -21,10 +20,10 @@ use Rattle.words.specs.declared.Range.{Range}
 use Rattle.words.specs.declared.Interval.{Interval}
 use Rattle.words.specs.declared.Mention.{Mention}
 use Rattle.rules.specs.Uses.{points_in}
-use Rattle.rules.specs.Sound.{every, range_end, end_before, interval_good, ascends, mention_good, first, bad_unless, fragments_good, register_good, bad_mention, bad_interval, bad_fixed, leftovers, or_else}
+use Rattle.rules.specs.Sound.{every, range_end, end_before, interval_good, ascends, mention_good, fragments_good, register_good}
 use Rattle.tables.specs.declared.Ends.{Ends}
 use Rattle.rules.specs.Tables.{Tables}
-use Rattle.tables.specs.Entries.{EndsBefore, Ranged, Passed, range_fits, extent_good, mention_find, between, fragment_good}
+use Rattle.tables.specs.Entries.{EndsBefore, Ranged, Passed, range_fits, extent_good, between, fragment_good}
 
 -- where the range before range k ends
 end_before_lem : (ranges : ℕ → Range) (k : ℕ) → (k ≡ 0 → ⊥) → end_before ranges k ≡ range_end (ranges (k - 1))

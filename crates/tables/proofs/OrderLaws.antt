@@ -1,11 +1,8 @@
 -- Laws of the checks in order: what the earlier checks give to the later, and how the answer is the first refusal.
 -- Assumes nothing.
-use Rattle.std.specs.Prelude.{Option, None, Some, Ok, Err}
-use Prim.Native.Nat.{ℕ, ◌≤◌}
+use Rattle.std.specs.Prelude.{Option, None, Some, Err}
+use Prim.Native.Nat.{ℕ}
 use mathlib.Core.Path.{◌≡◌, sym, ap, ◌∙◌}
-use mathlib.Core.List.{List}
-use lib.ListN.{length}
-use Rattle.words.specs.Packed.{interval_count}
 use Rattle.rules.specs.declared.Refusal.{Refusal}
 use Rattle.rules.specs.declared.Refusal.TheVariants.{BadClass, BadInterval, BadMention, BadSafepoint, BadFixed}
 use Rattle.rules.specs.Answers.{fine, Check}

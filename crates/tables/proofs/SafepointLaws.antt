@@ -1,6 +1,5 @@
 -- Laws of check 7: in mentions that ascend, at most one is at an instruction, and a search of their words finds it.
 -- Assumes nothing.
-use Rattle.std.specs.Prelude.{Option, None, Some}
 use Prim.Native.Nat.{ℕ, zero, suc, ◌+◌, ◌-◌, ◌*◌, ◌/◌, ◌^◌, ◌≤◌, ◌<◌}
 use mathlib.Core.Path.{◌≡◌, refl, sym, ap, ◌∙◌}
 use mathlib.Core.Bool.{Bool, true, false, ◌&&◌, ◌||◌, not}
@@ -19,7 +18,7 @@ use Rattle.words.specs.Packed.{interval_at, interval_count, mention_in, part}
 use Rattle.words.specs.declared.Range.{Range}
 use Rattle.words.specs.declared.Interval.{Interval}
 use Rattle.words.specs.declared.Mention.{Mention}
-use Rattle.rules.specs.Sound.{every, range_end, ascends, not_used_alone, safepoint_good, bad_safepoint}
+use Rattle.rules.specs.Sound.{every, range_end, ascends, not_used_alone, safepoint_good}
 use Rattle.rules.proofs.AcceptedLaws.{part_long}
 use Rattle.seek.specs.Seek.{Rising, Lower}
 use Rattle.rules.specs.Tables.{Tables}

@@ -1,10 +1,10 @@
 -- Laws of the walks that the checks at entry make: a test that chooses, and one turn of a walk.
 -- Assumes nothing.
 use Rattle.rules.specs.Answers.{fine}
-use Rattle.std.specs.Prelude.{Option, None, Some, Ok, Err}
+use Rattle.std.specs.Prelude.{Option, None, Some, Err}
 use Prim.Native.Nat.{ℕ, suc, ◌+◌, ◌-◌, ◌≤◌, ◌<◌}
 use mathlib.Core.Path.{◌≡◌, refl}
-use mathlib.Core.Bool.{Bool, true, false, not}
+use mathlib.Core.Bool.{Bool, true, false}
 use native.Mathlib.Omega.{arith}
 use native.Mathlib.Numerals.{add-one}
 use Rattle.words.specs.Choose.{choose}
@@ -56,8 +56,8 @@ module _ (t : ℕ → Bool) (i hi : ℕ) (h : i < hi) where
   bad_here e = first_here (λ k. bad_unless (t k) k) i hi i h (rw (← e))
 
 -- a walk of a range to where it ends, and of a whole table
-pub find_in : (f : ℕ → Option ℕ) (q : Range) (e : ℕ) (r : Option ℕ) → e ≡ range_end q → r ≡ first f q.index (e - q.index) → r ≡ first f q.index q.count
-find_in f q e r h g = let d : e - q.index ≡ q.count = omega arith in rw d at g
+pub find_in : (f : ℕ → Option ℕ) (q : Range) (s e : ℕ) (r : Option ℕ) → s ≡ q.index → e ≡ range_end q → r ≡ first f s (e - s) → r ≡ first f q.index q.count
+find_in f q s e r h k g = let d : e - s ≡ q.count = omega arith in rw (d, h) at g
 
 pub find_all : (f : ℕ → Option ℕ) (n m : ℕ) (r : Option ℕ) → n ≡ m → r ≡ first f 0 (n - 0) → r ≡ first f 0 m
 find_all f n m r h g = let d : n - 0 ≡ m = omega arith in rw d at g
@@ -67,11 +67,15 @@ pub either : (a b : Option ℕ) → option_or a b ≡ or_else a b
 either None b = refl
 either (Some k) b = refl
 
+both : (a b c : Option ℕ) → option_or (option_or a b) c ≡ or_else a (or_else b c)
+both None b c = either b c
+both (Some k) b c = refl
+
 -- checks 5 and 8: the first bad entry, else what is left over
 pub intervals_found : (T : Tables) (n : ℕ) (a b c d r : Option ℕ) → n ≡ interval_count T.intervals → a ≡ first (λ v. bad_unless (interval_good T v) v) 0 (n - 0)
-    → b ≡ leftovers n (length T.mentions) → c ≡ leftovers n (length T.safepoints) → d ≡ option_or b c → r ≡ option_or a d → r ≡ bad_interval T
+    → b ≡ leftovers n (length T.mentions) → c ≡ leftovers n (length T.safepoints) → d ≡ option_or a b → r ≡ option_or d c → r ≡ bad_interval T
 unfolding bad_interval
-intervals_found T n a b c d r e f g h k m = rw (← (find_all _ n _ a e f), ← e, ← g, ← h, ← (either b c), ← k, ← (either a d)) m
+intervals_found T n a b c d r e f g h k m = rw (← (find_all _ n _ a e f), ← e, ← g, ← h, ← (both a b c), ← k) m
 
 pub fixed_found : (T : Tables) (a b r : Option ℕ) → a ≡ first (λ r. bad_unless (register_good T r) r) 0 (length T.registers - 0)
     → b ≡ leftovers (length T.registers) (length T.fragments) → r ≡ option_or a b → r ≡ bad_fixed T

@@ -12,9 +12,7 @@ fn scratch_good(c: Class) -> bool
     ensures { result ≡ scratch_good c }
 {
     if 0 < c.count {
-        c.scratched
-            && c.first <= c.scratch
-            && (c.scratch as u32) < c.first as u32 + c.count as u32
+        c.scratched && c.first <= c.scratch && (c.scratch as u32) < c.first as u32 + c.count as u32
     } else {
         !c.scratched && c.scratch == 0
     }

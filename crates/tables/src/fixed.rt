@@ -56,7 +56,12 @@ fn register_good(tables: &Tables, r: usize) -> bool
         return false;
     }
     let end = tests::range_end(q);
-    fragments_good(2 * tables.instructions, tables.fragments, q.index as usize, end)
+    fragments_good(
+        2 * tables.instructions,
+        tables.fragments,
+        q.index as usize,
+        end,
+    )
 }
 
 pub(crate) fn bad_fixed(tables: &Tables) -> Option<u16>
@@ -65,5 +70,5 @@ pub(crate) fn bad_fixed(tables: &Tables) -> Option<u16>
 {
     let n = tables.registers.len();
     let unused = tests::left_over(n, tables.fragments.len());
-    walk::first_bad(0, n, |r| register_good(tables, r)).or(unused)
+    walk::first_bad(0..n, |r| register_good(tables, r)).or(unused)
 }

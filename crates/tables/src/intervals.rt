@@ -42,7 +42,12 @@ fn interval_good(tables: &Tables, v: usize) -> bool
     let i = read::interval_at(tables.intervals, v);
     extent_good(2 * tables.instructions, tables.classes.len(), i)
         && tests::range_good(i.mentions, before.mentions, more, tables.mentions.len())
-        && tests::range_good(i.safepoints, before.safepoints, more, tables.safepoints.len())
+        && tests::range_good(
+            i.safepoints,
+            before.safepoints,
+            more,
+            tables.safepoints.len(),
+        )
 }
 
 pub(crate) fn bad_interval(tables: &Tables) -> Option<u16>
@@ -50,7 +55,7 @@ pub(crate) fn bad_interval(tables: &Tables) -> Option<u16>
     ensures { result ≡ bad_interval (tables_of tables.now) }
 {
     let n = read::interval_count(tables.intervals);
-    let unused =
-        tests::left_over(n, tables.mentions.len()).or(tests::left_over(n, tables.safepoints.len()));
-    walk::first_bad(0, n, |v| interval_good(tables, v)).or(unused)
+    walk::first_bad(0..n, |v| interval_good(tables, v))
+        .or(tests::left_over(n, tables.mentions.len()))
+        .or(tests::left_over(n, tables.safepoints.len()))
 }

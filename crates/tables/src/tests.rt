@@ -4,6 +4,7 @@ ghost use Rattle.words.specs.Points.{within};
 ghost use Rattle.rules.specs.Sound.{range_end, leftovers};
 ghost use Rattle.tables.specs.Entries.{range_fits};
 
+use std::ops;
 use words::Range;
 
 // The place of a refusal that names no entry.
@@ -20,6 +21,14 @@ pub(crate) fn range_end(r: Range) -> usize
     ensures { result ≡ range_end r }
 {
     r.index as usize + r.count as usize
+}
+
+// The indices of the entries of range r.
+pub(crate) fn indices(r: Range) -> ops::Range<usize>
+    ensures start { result.start ≡ r.index }
+    ensures end { result.end ≡ range_end r }
+{
+    r.index as usize..range_end(r)
 }
 
 // Range r starts where the one before it ended, and ends inside a table of `len` entries, at its end unless more ranges follow.

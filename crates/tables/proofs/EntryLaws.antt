@@ -1,20 +1,21 @@
 -- Laws of the tests of one entry.
 -- Assumes nothing.
-use Prim.Native.Nat.{ℕ, suc, ◌+◌, ◌-◌, ◌*◌, ◌≤◌, ◌<◌}
-use mathlib.Core.Path.{◌≡◌, refl, sym, ◌∙◌}
+use Prim.Native.Nat.{ℕ, zero, suc, ◌+◌, ◌-◌, ◌*◌, ◌≤◌, ◌<◌}
+use mathlib.Core.Path.{◌≡◌, refl}
 use mathlib.Core.Bool.{Bool, true, false, ◌&&◌, ◌||◌, not}
 use mathlib.Core.List.{List, [], ◌∷◌, ◌++◌}
 use native.Mathlib.Omega.{arith}
 use native.Mathlib.Numerals.{add-one}
 use lib.ListN.{length, get_or}
-use borrow.Author.Tests.{not-true, not-false}
 use lib.Seq.{drop-cons}
+use Rattle.std.specs.Bool.{MatchBool}
+use Rattle.std.specs.List.{list_all, range_with_len, AllWithin, HoldsAt}
 use Rattle.words.specs.Choose.{choose}
 use Rattle.words.specs.Points.{use_point, def_point, within}
 use Rattle.words.specs.declared.Mention.{Mention}
 use Rattle.rules.specs.Uses.{points_in}
 use Rattle.rules.specs.Sound.{every, fragments_good}
-use Rattle.tables.specs.Entries.{Passed, between, fragment_good}
+use Rattle.tables.specs.Entries.{between, fragment_good}
 
 -- the points of a mention, one by one
 pub points_inside : (a e : ℕ) (m : Mention) (x y : Bool) → x ≡ within a e (2 * m.instruction) → y ≡ within a e (2 * m.instruction + 1)
@@ -46,25 +47,31 @@ between_more a e ws h l =
 between_none : (a e : ℕ) (ws : List ℕ) → e ≤ a → between a e ws ≡ []
 between_none a e ws h = let d : e - a ≡ 0 = omega arith in rw d
 
--- the walk of a register's fragments
-module _ (limit : ℕ) (ws : List ℕ) (lo hi : ℕ) where
-  pub passed_starts : lo ≤ hi → hi ≤ length ws → Passed limit ws lo hi lo
-  passed_starts h l = record { upto = h; inside = l; rest = refl }
+-- what `all` answers is the test of all
+module _ (test : ℕ → Bool) where
+  all_pass : (xs : List ℕ) → AllWithin (λ y. true ≡ test y) xs 0 (length xs) → true ≡ list_all test xs
+  all_pass [] h = refl
+  all_pass (x ∷ xs) h = rw (← (h 0 x (omega arith) (omega arith))) (all_pass xs (λ k d l m. h (suc k) d (omega arith) (omega arith)))
 
-  pub passed_more : (f : ℕ) (t : Bool) → Passed limit ws lo hi f → f < hi → t ≡ fragment_good limit (get_or ws f 0) (between (f + 1) hi ws) → not t ≡ false → Passed limit ws lo hi (f + 1)
-  unfolding fragments_good
-  passed_more f t p h e n =
-      let g : fragment_good limit (get_or ws f 0) (between (f + 1) hi ws) ≡ true = sym e ∙ not-false t n in
-      let s : fragments_good limit (between f hi ws) ≡ fragments_good limit (between (f + 1) hi ws) = rw (between_more f hi ws h p.inside, g) in
-      record { upto = omega arith; inside = p.inside; rest = p.rest ∙ s }
+  one_fails : (xs : List ℕ) (k : ℕ) → k < length xs → HoldsAt (λ y. false ≡ test y) xs k → false ≡ list_all test xs
+  one_fails [] k h a = absurd (omega arith)
+  one_fails (x ∷ xs) zero h a = rw (← (a x))
+  one_fails (x ∷ xs) (suc k) h a = go (test x) (one_fails xs k (omega arith) a)
+    where
+      go : (b : Bool) → false ≡ list_all test xs → false ≡ (b && list_all test xs)
+      go true e = e
+      go false e = refl
 
-  pub passed_stops : (f : ℕ) (t : Bool) → Passed limit ws lo hi f → f < hi → t ≡ fragment_good limit (get_or ws f 0) (between (f + 1) hi ws) → not t ≡ true → false ≡ fragments_good limit (between lo hi ws)
-  unfolding fragments_good
-  passed_stops f t p h e n =
-      let g : fragment_good limit (get_or ws f 0) (between (f + 1) hi ws) ≡ false = sym e ∙ not-true t n in
-      let s : fragments_good limit (between f hi ws) ≡ false = rw (between_more f hi ws h p.inside, g) in
-      sym (p.rest ∙ s)
+  pub all_is : (r : Bool) (xs : List ℕ) → MatchBool r (AllWithin (λ y. true ≡ test y) xs 0 (length xs)) ((k : ℕ) × (k < length xs) × HoldsAt (λ y. false ≡ test y) xs k) → r ≡ list_all test xs
+  all_is true xs h = all_pass xs h
+  all_is false xs h = one_fails xs h.0 h.1 h.2
 
-  pub passed_ends : (f : ℕ) → Passed limit ws lo hi f → hi ≤ f → true ≡ fragments_good limit (between lo hi ws)
-  unfolding fragments_good
-  passed_ends f p h = sym (p.rest ∙ rw (between_none f hi ws h))
+-- the fragments of a register, each with those after it
+pub fragments_all : (limit : ℕ) (ws : List ℕ) (hi n lo : ℕ) → hi ≡ lo + n → hi ≤ length ws
+    → list_all (λ k. fragment_good limit (get_or ws k 0) (between (k + 1) hi ws)) (range_with_len lo n) ≡ fragments_good limit (between lo hi ws)
+unfolding fragments_good
+fragments_all limit ws hi zero lo e h = let d : hi ≤ lo = omega arith in rw (between_none lo hi ws d)
+fragments_all limit ws hi (suc n) lo e h =
+    let d : lo < hi = omega arith in
+    let rest = fragments_all limit ws hi n (lo + 1) (omega arith) h in
+    rw (between_more lo hi ws d h, rest)

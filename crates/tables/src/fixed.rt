@@ -37,12 +37,7 @@ fn fragments_good(limit: u32, fragments: &[u32], from: usize, end: usize) -> boo
     requires { (from ≤ end) × (end ≤ length fragments.now) }
     ensures { result ≡ fragments_good limit (between from end fragments.now) }
 {
-    for f in from..end {
-        if !fragment_good(limit, fragments, f, end) {
-            return false;
-        }
-    }
-    true
+    (from..end).all(|f| fragment_good(limit, fragments, f, end))
 }
 
 fn register_good(tables: &Tables, r: usize) -> bool

@@ -1,36 +1,17 @@
--- Laws of the walks that the checks at entry make: a test that chooses, and one turn of a walk.
+-- Laws of the walks that the checks at entry make: one turn of a walk, and what is found in all.
 -- Assumes nothing.
-use Rattle.rules.specs.Answers.{fine}
-use Rattle.std.specs.Prelude.{Option, None, Some, Err}
+use Rattle.std.specs.Prelude.{Option, None, Some}
 use Prim.Native.Nat.{ℕ, suc, ◌+◌, ◌-◌, ◌≤◌, ◌<◌}
 use mathlib.Core.Path.{◌≡◌, refl}
 use mathlib.Core.Bool.{Bool, true, false}
 use native.Mathlib.Omega.{arith}
 use native.Mathlib.Numerals.{add-one}
-use Rattle.words.specs.Choose.{choose}
-use Rattle.rules.specs.declared.Refusal.TheVariants.{OverLimit}
 use Rattle.rules.specs.Tables.{Tables}
 use Rattle.std.specs.Option.{option_or}
 use lib.ListN.{length}
 use Rattle.words.specs.Packed.{interval_count}
 use Rattle.words.specs.declared.Range.{Range}
-use Rattle.rules.specs.Sound.{or_else, first, bad_unless, leftovers, range_end, interval_good, register_good, bad_interval, bad_fixed, in_limits, check_limits}
-
--- a computed test t takes one arm
-pub chosen : {A : Type 0} (t b : Bool) (x y : A) → t ≡ b → t ≡ true → x ≡ choose b x y
-chosen t b x y e f = simp (← e, f)
-
-pub not_chosen : {A : Type 0} (t b : Bool) (x y : A) → t ≡ b → t ≡ false → y ≡ choose b x y
-not_chosen t b x y e f = simp (← e, f)
-
--- check 3 by its test
-pub limits_fine : (T : Tables) (t : Bool) → t ≡ in_limits T → t ≡ true → fine ≡ check_limits T
-unfolding check_limits
-limits_fine T t e f = chosen t (in_limits T) fine (Err OverLimit) e f
-
-pub limits_over : (T : Tables) (t : Bool) → t ≡ in_limits T → t ≡ false → Err OverLimit ≡ check_limits T
-unfolding check_limits
-limits_over T t e f = not_chosen t (in_limits T) fine (Err OverLimit) e f
+use Rattle.rules.specs.Sound.{or_else, first, bad_unless, leftovers, range_end, interval_good, register_good, bad_interval, bad_fixed}
 
 -- what f finds first from i to hi: past an entry where it finds none,
 pub first_more : (f : ℕ → Option ℕ) (i hi : ℕ) → i < hi → f i ≡ None → first f i (hi - i) ≡ first f (i + 1) (hi - (i + 1))

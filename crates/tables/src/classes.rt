@@ -4,9 +4,8 @@ ghost use Rattle.rules.specs.Lent.{tables_of};
 ghost use Rattle.rules.specs.Sound.{scratch_good, class_good, bad_class};
 ghost use Rattle.tables.specs.Entries.{Summed};
 
-use crate::read;
 use rules::Tables;
-use words::Class;
+use words::{Class, read};
 
 fn scratch_good(c: Class) -> bool
     ensures { result ≡ scratch_good c }

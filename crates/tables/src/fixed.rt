@@ -5,8 +5,9 @@ ghost use Rattle.rules.specs.Lent.{tables_of};
 ghost use Rattle.rules.specs.Sound.{end_before, fragments_good, register_good, bad_fixed};
 ghost use Rattle.tables.specs.Entries.{fragment_good, between};
 
-use crate::{read, tests, walk};
+use crate::{tests, walk};
 use rules::Tables;
+use words::read;
 
 // Where the fragments of the register before register r end.
 fn end_before(registers: &[u32], r: usize) -> usize

@@ -5,9 +5,9 @@ ghost use Rattle.rules.specs.Lent.{tables_of};
 ghost use Rattle.rules.specs.Sound.{interval_good, bad_interval};
 ghost use Rattle.tables.specs.Entries.{EndsBefore, extent_good, range_fits};
 
-use crate::{Ends, read, tests, walk};
+use crate::{Ends, tests, walk};
 use rules::Tables;
-use words::Interval;
+use words::{Interval, read};
 
 // Where the ranges of the interval before interval v end: interval v's continue them.
 fn ends_before(intervals: &[u32], v: usize) -> Ends

@@ -7,9 +7,9 @@ ghost use Rattle.rules.specs.Uses.{points_in};
 ghost use Rattle.rules.specs.Sound.{every, ascends, range_end, mention_good, bad_mention};
 ghost use Rattle.tables.specs.Entries.{Ranged, mention_find};
 
-use crate::{read, tests, walk};
+use crate::{tests, walk};
 use rules::Tables;
-use words::{Interval, Mention, Range};
+use words::{Interval, Mention, Range, read};
 
 // Every point of mention m is in a..e.
 fn points_inside(a: u16, e: u16, m: Mention) -> bool

@@ -6,10 +6,10 @@ ghost use Rattle.rules.specs.Lent.{tables_of};
 ghost use Rattle.rules.specs.Sound.{every, ascends, range_end, not_used_alone, safepoint_good, bad_safepoint};
 ghost use Rattle.tables.specs.Entries.{Ascending, Placed, safepoint_find};
 
-use crate::{read, tests, walk};
+use crate::{tests, walk};
 use rules::Tables;
 use seek;
-use words::{Interval, Range};
+use words::{Interval, Range, read};
 
 // What a mention word has below its instruction.
 const BELOW_INSTRUCTION: u64 = 131072;

@@ -1,12 +1,17 @@
 -- Laws of the tests of one entry.
 -- Assumes nothing.
 use Prim.Native.Nat.{ℕ, zero, suc, ◌+◌, ◌-◌, ◌*◌, ◌≤◌, ◌<◌}
-use mathlib.Core.Path.{◌≡◌, refl}
+use mathlib.Core.Path.{◌≡◌, refl, sym, ap, ◌∙◌}
 use mathlib.Core.Bool.{Bool, true, false, ◌&&◌, ◌||◌, not}
 use mathlib.Core.List.{List, [], ◌∷◌, ◌++◌}
 use native.Mathlib.Omega.{arith}
 use native.Mathlib.Numerals.{add-one}
-use lib.ListN.{length, get_or}
+use lib.ListN.{length, get_or, take, drop}
+use lib.Dec.{ltb, leb, eqb}
+use borrow.Author.Tests.{leb-true}
+use Rattle.rules.proofs.AcceptedLaws.{and_left, and_right}
+use Rattle.words.specs.declared.Range.{Range}
+use Rattle.words.specs.Packed.{part}
 use lib.Seq.{drop-cons}
 use Rattle.std.specs.Bool.{MatchBool}
 use Rattle.std.specs.List.{list_all, range_with_len, AllWithin, HoldsAt}
@@ -14,7 +19,7 @@ use Rattle.words.specs.Choose.{choose}
 use Rattle.words.specs.Points.{use_point, def_point, within}
 use Rattle.words.specs.declared.Mention.{Mention}
 use Rattle.rules.specs.Uses.{points_in}
-use Rattle.rules.specs.Sound.{every, fragments_good}
+use Rattle.rules.specs.Sound.{every, fragments_good, range_end, range_good, end_before}
 use Rattle.tables.specs.Entries.{between, fragment_good}
 
 -- the points of a mention, one by one
@@ -67,7 +72,7 @@ module _ (test : ℕ → Bool) where
   all_is false xs h = one_fails xs h.0 h.1 h.2
 
 -- the fragments of a register, each with those after it
-pub fragments_all : (limit : ℕ) (ws : List ℕ) (hi n lo : ℕ) → hi ≡ lo + n → hi ≤ length ws
+fragments_all : (limit : ℕ) (ws : List ℕ) (hi n lo : ℕ) → hi ≡ lo + n → hi ≤ length ws
     → list_all (λ k. fragment_good limit (get_or ws k 0) (between (k + 1) hi ws)) (range_with_len lo n) ≡ fragments_good limit (between lo hi ws)
 unfolding fragments_good
 fragments_all limit ws hi zero lo e h = let d : hi ≤ lo = omega arith in rw (between_none lo hi ws d)
@@ -75,3 +80,15 @@ fragments_all limit ws hi (suc n) lo e h =
     let d : lo < hi = omega arith in
     let rest = fragments_all limit ws hi n (lo + 1) (omega arith) h in
     rw (between_more lo hi ws d h, rest)
+
+pub fragments_of : (limit : ℕ) (ws : List ℕ) (q : Range) (e : ℕ) → e ≡ range_end q → range_end q ≤ length ws
+    → list_all (λ k. fragment_good limit (get_or ws k 0) (between (k + 1) e ws)) (range_with_len q.index (e - q.index)) ≡ fragments_good limit (part q ws)
+fragments_of limit ws q e f h =
+    let d : e - q.index ≡ q.count = omega arith in
+    fragments_all limit ws e (e - q.index) q.index (omega arith) (omega arith) ∙ ap (λ n. fragments_good limit (take n (drop q.index ws))) d
+
+-- a good range lies in its table
+pub range_inside : (ranges : ℕ → Range) (n len k : ℕ) (q : Range) → q ≡ ranges k → true ≡ range_good ranges n len k → range_end q ≤ len
+range_inside ranges n len k q e g =
+    let y : leb (range_end (ranges k)) len ≡ true = and_right (eqb (ranges k).index (end_before ranges k)) (leb (range_end (ranges k)) len) (and_left _ (ltb (k + 1) n || eqb (range_end (ranges k)) len) (sym g)) in
+    rw e (leb-true (range_end (ranges k)) len y)

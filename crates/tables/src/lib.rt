@@ -10,10 +10,3 @@ mod mentions;
 mod safepoints;
 mod tests;
 mod walk;
-
-// Where the mentions and the safepoints of an interval end.
-#[derive(Clone, Copy)]
-struct Ends {
-    mentions: usize,
-    safepoints: usize,
-}

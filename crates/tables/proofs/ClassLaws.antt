@@ -2,21 +2,16 @@
 -- Assumes nothing.
 use Prim.Native.Nat.{ℕ, zero, suc, ◌+◌, ◌≤◌, ◌<◌}
 use mathlib.Core.Path.{◌≡◌, refl, sym, ap, ◌∙◌}
-use mathlib.Core.Bool.{Bool, ◌&&◌, ◌||◌, not}
 use mathlib.Core.List.{List, [], ◌∷◌}
 use native.Mathlib.Nat.{not-suc-le-zero, le_of_suc-le-suc}
 use native.Mathlib.Omega.{arith}
 use native.Mathlib.Numerals.{add-one}
-use native.Mathlib.Decide.{dec_lt}
 use lib.ListN.{length, get_or, take}
 use lib.Seq.{take_all}
-use lib.Dec.{ltb, leb, eqb}
-use borrow.Author.Tests.{lt-ltb, le-ltb}
 use Rattle.words.specs.Packed.{class_in, class_at}
 use Rattle.words.proofs.Field.{bits_lt}
 use Rattle.words.specs.declared.Class.{Class}
-use Rattle.rules.specs.Sound.{count_sum, scratch_good, class_good}
-use Rattle.rules.specs.Tables.{Tables}
+use Rattle.rules.specs.Sound.{count_sum}
 use Rattle.tables.specs.Entries.{Summed}
 
 -- the counts of one class more

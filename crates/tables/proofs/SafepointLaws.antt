@@ -1,6 +1,5 @@
 -- Laws of check 7: in mentions that ascend, at most one is at an instruction, and a search of their words finds it.
 -- Assumes nothing.
-use Rattle.std.specs.Prelude.{Option, None, Some}
 use Prim.Native.Nat.{ℕ, zero, suc, ◌+◌, ◌-◌, ◌*◌, ◌/◌, ◌^◌, ◌≤◌, ◌<◌}
 use mathlib.Core.Path.{◌≡◌, refl, sym, ap, ◌∙◌}
 use mathlib.Core.Bool.{Bool, true, false, ◌&&◌, ◌||◌, not}
@@ -14,16 +13,13 @@ use lib.Dec.{eqb}
 use borrow.Author.Tests.{ne_eqb}
 use mir.Syntax.{w32}
 use mir.Val.{Fits}
-use Rattle.words.specs.Points.{use_point, within}
-use Rattle.words.specs.Packed.{interval_at, interval_count, mention_in, part}
+use Rattle.words.specs.Packed.{mention_in, part}
 use Rattle.words.specs.declared.Range.{Range}
-use Rattle.words.specs.declared.Interval.{Interval}
 use Rattle.words.specs.declared.Mention.{Mention}
-use Rattle.rules.specs.Sound.{every, range_end, ascends, not_used_alone, safepoint_good, bad_safepoint}
+use Rattle.rules.specs.Sound.{every, range_end, not_used_alone}
 use Rattle.rules.proofs.AcceptedLaws.{part_long}
 use Rattle.seek.specs.Seek.{Rising, Lower}
-use Rattle.rules.specs.Tables.{Tables}
-use Rattle.tables.specs.Entries.{Ascending, Placed}
+use Rattle.tables.specs.Entries.{Ascending}
 
 -- a test that every entry passes
 every_all : (f : ℕ → Bool) (l : List ℕ) → ((n : ℕ) → n < length l → f (get_or l n 0) ≡ true) → true ≡ every f l
@@ -114,15 +110,3 @@ module _ (ms : List ℕ) (q : Range) (up : Ascending ms q) (words : (k : ℕ) �
           go : Dec (n < at) → not_used_alone s (get_or ms (q.index + n) 0) ≡ true
           go (yes g) = before_there hi s r l n (omega arith)
           go (no g) = after n c (omega arith)
-
--- the test of a safepoint, part by part
-pub safepoint_good_by : (T : Tables) (i : Interval) (j p : ℕ) (x y z : Bool) → x ≡ ascends (λ k. get_or T.safepoints k 0) i.safepoints j → p ≡ use_point (get_or T.safepoints j 0)
-    → y ≡ within i.start i.end p → z ≡ every (not_used_alone (get_or T.safepoints j 0)) (part i.mentions T.mentions) → (i.reference && x && y && z) ≡ safepoint_good T i j
-safepoint_good_by T i j p x y z e f g h = rw (e, g, f, h)
-
--- the ranges of one interval
-pub mentions_placed : (T : Tables) (v : ℕ) (i : Interval) → Placed T → v < interval_count T.intervals → i ≡ interval_at T.intervals v → Ascending T.mentions i.mentions
-mentions_placed T v i r h e = rw e (r.mentions v h)
-
-pub safepoints_placed : (T : Tables) (v : ℕ) (i : Interval) → Placed T → v < interval_count T.intervals → i ≡ interval_at T.intervals v → range_end i.safepoints ≤ length T.safepoints
-safepoints_placed T v i r h e = rw e (r.safepoints v h)

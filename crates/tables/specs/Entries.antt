@@ -1,16 +1,11 @@
 -- Facts for contracts: document 01's tests of one entry, said of the entry and of what the walk of its table carries.
-use Rattle.std.specs.Prelude.{ℕ, ◌+◌, ◌-◌, ◌*◌, ◌≤◌, ◌<◌, ◌≡◌, List, length, get_or, take, drop, Bool, ◌&&◌, ◌||◌, ltb, leb, eqb, Option}
+use Rattle.std.specs.Prelude.{ℕ, ◌-◌, ◌*◌, ◌≤◌, ◌<◌, ◌≡◌, List, length, get_or, take, drop, Bool, ◌&&◌, ltb, leb, eqb, Option}
 use Rattle.words.specs.declared.Range.{Range}
 use Rattle.words.specs.declared.Interval.{Interval}
-use Rattle.rules.specs.Sound.{first, count_sum, range_end, end_before, ends_before, fragments_good, bad_unless, mention_good, safepoint_good}
+use Rattle.rules.specs.Sound.{first, count_sum, range_end, ends_before, bad_unless, mention_good, safepoint_good}
 use Rattle.words.specs.Packed.{interval_at, interval_count, fragment_in, mention_in}
-use Rattle.tables.specs.declared.Ends.{Ends}
 use Rattle.rules.specs.Tables.{Tables}
 use Rattle.rules.specs.Accepted.{InRange}
-
--- range r continues those that end at `before` inside a table of len entries; more ranges follow, or it ends there
-abbrev pub range_fits : Range → ℕ → Bool → ℕ → Bool
-range_fits r before more len = eqb r.index before && leb (range_end r) len && (more || eqb (range_end r) len)
 
 -- interval i but for its ranges: "class exists, start ≤ end < 2 × instructions"
 abbrev pub extent_good : ℕ → ℕ → Interval → Bool
@@ -20,18 +15,6 @@ extent_good limit classes i = eqb i.spare 0 && ltb i.class classes && leb i.star
 pub record Summed (classes : List ℕ) (k sum : ℕ) : Type 0 where
   pub is : sum ≡ count_sum (take k classes)
   pub small : sum ≤ 255 * k
-
--- a walk of the n entries from lo to hi has found nothing before i
-pub record Walked (f : ℕ → Option ℕ) (lo n hi i : ℕ) : Type 0 where
-  pub ends : hi ≡ lo + n
-  pub from : lo ≤ i
-  pub upto : i ≤ hi
-  pub rest : first f lo n ≡ first f i (hi - i)
-
--- e is where the ranges of the interval before interval v end
-pub record EndsBefore (intervals : List ℕ) (v : ℕ) (e : Ends) : Type 0 where
-  pub mentions : e.mentions ≡ end_before (λ k. (interval_at intervals k).mentions) v
-  pub safepoints : e.safepoints ≡ end_before (λ k. (interval_at intervals k).safepoints) v
 
 -- the mentions of every interval lie in the table
 pub record Ranged (T : Tables) : Type 0 where
@@ -44,12 +27,6 @@ between a e ws = take (e - a) (drop a ws)
 -- fragment w, before those of ws, is ordered, below the limit and ends before the next begins
 abbrev pub fragment_good : ℕ → ℕ → List ℕ → Bool
 fragment_good limit w ws = leb (fragment_in w).first (fragment_in w).last && ltb (fragment_in w).last limit && ends_before w ws
-
--- of the fragments from lo to hi those before f are good
-pub record Passed (limit : ℕ) (ws : List ℕ) (lo hi f : ℕ) : Type 0 where
-  pub upto : f ≤ hi
-  pub inside : hi ≤ length ws
-  pub rest : fragments_good limit (between lo hi ws) ≡ fragments_good limit (between f hi ws)
 
 -- what the mentions of interval i are found to be
 abbrev pub mention_find : Tables → Interval → Option ℕ

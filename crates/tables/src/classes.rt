@@ -4,17 +4,14 @@ ghost use Rattle.rules.specs.Lent.{tables_of};
 ghost use Rattle.rules.specs.Sound.{scratch_good, class_good, bad_class};
 ghost use Rattle.tables.specs.Entries.{Summed};
 
-use crate::read;
 use rules::Tables;
-use words::Class;
+use words::{Class, read};
 
 fn scratch_good(c: Class) -> bool
     ensures { result ≡ scratch_good c }
 {
     if 0 < c.count {
-        c.scratched
-            && c.first <= c.scratch
-            && (c.scratch as u32) < c.first as u32 + c.count as u32
+        c.scratched && c.first <= c.scratch && (c.scratch as u32) < c.first as u32 + c.count as u32
     } else {
         !c.scratched && c.scratch == 0
     }

@@ -1,23 +1,13 @@
 // 8: fixed table bad.
 ghost use Rattle.std.specs.Prelude.{◌≡◌, ◌+◌, ◌<◌, ◌≤◌, length, get_or};
-ghost use Rattle.words.specs.Packed.{register_at};
+ghost use Rattle.words.specs.Packed.{part};
 ghost use Rattle.rules.specs.Lent.{tables_of};
-ghost use Rattle.rules.specs.Sound.{end_before, fragments_good, register_good, bad_fixed};
+ghost use Rattle.rules.specs.Sound.{range_end, fragments_good, register_good, bad_fixed};
 ghost use Rattle.tables.specs.Entries.{fragment_good, between};
 
-use crate::{read, tests, walk};
+use crate::{tests, walk};
 use rules::Tables;
-
-// Where the fragments of the register before register r end.
-fn end_before(registers: &[u32], r: usize) -> usize
-    requires { r < length registers.now }
-    ensures { result ≡ end_before (register_at registers.now) r }
-{
-    if r == 0 {
-        return 0;
-    }
-    tests::range_end(read::register_at(registers, r - 1))
-}
+use words::{Range, read};
 
 // Fragment f is ordered, below the limit, and ends before the next one of f..end begins.
 fn fragment_good(limit: u32, fragments: &[u32], f: usize, end: usize) -> bool
@@ -33,30 +23,22 @@ fn fragment_good(limit: u32, fragments: &[u32], f: usize, end: usize) -> bool
     good
 }
 
-fn fragments_good(limit: u32, fragments: &[u32], from: usize, end: usize) -> bool
-    requires { (from ≤ end) × (end ≤ length fragments.now) }
-    ensures { result ≡ fragments_good limit (between from end fragments.now) }
+fn fragments_good(limit: u32, fragments: &[u32], q: Range) -> bool
+    requires { range_end q ≤ length fragments.now }
+    ensures { result ≡ fragments_good limit (part q fragments.now) }
 {
-    for f in from..end {
-        if !fragment_good(limit, fragments, f, end) {
-            return false;
-        }
-    }
-    true
+    let end = tests::range_end(q);
+    (q.index as usize..end).all(|f| fragment_good(limit, fragments, f, end))
 }
 
 fn register_good(tables: &Tables, r: usize) -> bool
     requires { (tables.now.instructions ≤ 32768) × (r < length tables.now.registers.now) }
     ensures { result ≡ register_good (tables_of tables.now) r }
 {
-    let more = r + 1 < tables.registers.len();
-    let before = end_before(tables.registers, r);
-    let q = read::register_at(tables.registers, r);
-    if !tests::range_good(q, before, more, tables.fragments.len()) {
-        return false;
-    }
-    let end = tests::range_end(q);
-    fragments_good(2 * tables.instructions, tables.fragments, q.index as usize, end)
+    let at = |k| read::register_at(tables.registers, k);
+    let q = at(r);
+    tests::range_good(at, tables.registers.len(), tables.fragments.len(), r)
+        && fragments_good(2 * tables.instructions, tables.fragments, q)
 }
 
 pub(crate) fn bad_fixed(tables: &Tables) -> Option<u16>
@@ -65,5 +47,5 @@ pub(crate) fn bad_fixed(tables: &Tables) -> Option<u16>
 {
     let n = tables.registers.len();
     let unused = tests::left_over(n, tables.fragments.len());
-    walk::first_bad(0, n, |r| register_good(tables, r)).or(unused)
+    walk::first_bad(0..n, |r| register_good(tables, r)).or(unused)
 }

@@ -3,29 +3,11 @@ ghost use Rattle.std.specs.Prelude.{◌≡◌, ◌<◌, ◌≤◌};
 ghost use Rattle.words.specs.Packed.{interval_count};
 ghost use Rattle.rules.specs.Lent.{tables_of};
 ghost use Rattle.rules.specs.Sound.{interval_good, bad_interval};
-ghost use Rattle.tables.specs.Entries.{EndsBefore, extent_good, range_fits};
+ghost use Rattle.tables.specs.Entries.{extent_good};
 
-use crate::{Ends, read, tests, walk};
+use crate::{tests, walk};
 use rules::Tables;
-use words::Interval;
-
-// Where the ranges of the interval before interval v end: interval v's continue them.
-fn ends_before(intervals: &[u32], v: usize) -> Ends
-    requires { v < interval_count intervals.now }
-    ensures { EndsBefore intervals.now v result }
-{
-    if v == 0 {
-        return Ends {
-            mentions: 0,
-            safepoints: 0,
-        };
-    }
-    let i = read::interval_at(intervals, v - 1);
-    Ends {
-        mentions: tests::range_end(i.mentions),
-        safepoints: tests::range_end(i.safepoints),
-    }
-}
+use words::{Interval, read};
 
 fn extent_good(limit: u32, classes: usize, i: Interval) -> bool
     ensures { result ≡ extent_good limit classes i }
@@ -37,12 +19,11 @@ fn interval_good(tables: &Tables, v: usize) -> bool
     requires { (tables.now.instructions ≤ 32768) × (v < interval_count tables.now.intervals.now) }
     ensures { result ≡ interval_good (tables_of tables.now) v }
 {
-    let more = v + 1 < read::interval_count(tables.intervals);
-    let before = ends_before(tables.intervals, v);
-    let i = read::interval_at(tables.intervals, v);
-    extent_good(2 * tables.instructions, tables.classes.len(), i)
-        && tests::range_good(i.mentions, before.mentions, more, tables.mentions.len())
-        && tests::range_good(i.safepoints, before.safepoints, more, tables.safepoints.len())
+    let n = read::interval_count(tables.intervals);
+    let at = |k| read::interval_at(tables.intervals, k);
+    extent_good(2 * tables.instructions, tables.classes.len(), at(v))
+        && tests::range_good(|k| at(k).mentions, n, tables.mentions.len(), v)
+        && tests::range_good(|k| at(k).safepoints, n, tables.safepoints.len(), v)
 }
 
 pub(crate) fn bad_interval(tables: &Tables) -> Option<u16>
@@ -50,7 +31,7 @@ pub(crate) fn bad_interval(tables: &Tables) -> Option<u16>
     ensures { result ≡ bad_interval (tables_of tables.now) }
 {
     let n = read::interval_count(tables.intervals);
-    let unused =
-        tests::left_over(n, tables.mentions.len()).or(tests::left_over(n, tables.safepoints.len()));
-    walk::first_bad(0, n, |v| interval_good(tables, v)).or(unused)
+    walk::first_bad(0..n, |v| interval_good(tables, v))
+        .or(tests::left_over(n, tables.mentions.len()))
+        .or(tests::left_over(n, tables.safepoints.len()))
 }

@@ -1,4 +1,4 @@
-// The six tables: their entries read, and the checks 3 to 8 at entry, which the assigner and the checker share.
+// The six tables: the checks 3 to 8 at entry, which the assigner and the checker share.
 #![tactic(auto)]
 
 pub mod check;
@@ -7,14 +7,6 @@ mod fixed;
 mod intervals;
 mod limits;
 mod mentions;
-pub mod read;
 mod safepoints;
 mod tests;
 mod walk;
-
-// Where the mentions and the safepoints of an interval end.
-#[derive(Clone, Copy)]
-struct Ends {
-    mentions: usize,
-    safepoints: usize,
-}

@@ -3,8 +3,8 @@ ghost use Rattle.std.specs.Prelude.{◌≡◌};
 ghost use Rattle.rules.specs.Lent.{tables_of};
 ghost use Rattle.rules.specs.Sound.{in_limits, check_limits};
 
-use crate::read;
 use rules::{Refusal, Tables};
+use words::read;
 
 const INSTRUCTIONS: u32 = 32768;
 

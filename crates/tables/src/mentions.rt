@@ -7,9 +7,9 @@ ghost use Rattle.rules.specs.Uses.{points_in};
 ghost use Rattle.rules.specs.Sound.{every, ascends, range_end, mention_good, bad_mention};
 ghost use Rattle.tables.specs.Entries.{Ranged, mention_find};
 
-use crate::{read, tests, walk};
+use crate::{tests, walk};
 use rules::Tables;
-use words::{Interval, Mention, Range};
+use words::{Interval, Mention, Range, read};
 
 // Every point of mention m is in a..e.
 fn points_inside(a: u16, e: u16, m: Mention) -> bool
@@ -54,15 +54,15 @@ fn first_mention(tables: &Tables, i: Interval) -> Option<u16>
     requires { (range_end i.mentions ≤ length tables.now.mentions.now) × (length tables.now.mentions.now ≤ 16384) }
     ensures { result ≡ mention_find (tables_of tables.now) i }
 {
-    let end = tests::range_end(i.mentions);
-    walk::first_bad(i.mentions.index as usize, end, |j| mention_good(tables, i, j))
+    let indices = tests::indices(i.mentions);
+    walk::first_bad(indices, |j| mention_good(tables, i, j))
 }
 
 pub(crate) fn bad_mention(tables: &Tables) -> Option<u16>
     requires { (Ranged (tables_of tables.now)) × (length tables.now.mentions.now ≤ 16384) }
     ensures { result ≡ bad_mention (tables_of tables.now) }
 {
-    walk::first_found(0, read::interval_count(tables.intervals), |v| {
+    walk::first_found(0..read::interval_count(tables.intervals), |v| {
         first_mention(tables, read::interval_at(tables.intervals, v))
     })
 }

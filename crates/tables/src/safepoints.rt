@@ -6,10 +6,10 @@ ghost use Rattle.rules.specs.Lent.{tables_of};
 ghost use Rattle.rules.specs.Sound.{every, ascends, range_end, not_used_alone, safepoint_good, bad_safepoint};
 ghost use Rattle.tables.specs.Entries.{Ascending, Placed, safepoint_find};
 
-use crate::{read, tests, walk};
+use crate::{tests, walk};
 use rules::Tables;
 use seek;
-use words::{Interval, Range};
+use words::{Interval, Range, read};
 
 // What a mention word has below its instruction.
 const BELOW_INSTRUCTION: u64 = 131072;
@@ -38,7 +38,12 @@ fn never_alone(q: Range, mentions: &[u32], s: u32) -> bool
     ensures { result ≡ every (not_used_alone s) (part q mentions.now) }
 {
     let end = tests::range_end(q);
-    let k = seek::lower(mentions, q.index as usize, end, s as u64 * BELOW_INSTRUCTION);
+    let k = seek::lower(
+        mentions,
+        q.index as usize,
+        end,
+        s as u64 * BELOW_INSTRUCTION,
+    );
     if end <= k {
         return true;
     }
@@ -62,15 +67,15 @@ fn first_safepoint(tables: &Tables, i: Interval) -> Option<u16>
     requires { (range_end i.safepoints ≤ length tables.now.safepoints.now) × (length tables.now.safepoints.now ≤ 16384) × (Ascending tables.now.mentions.now i.mentions) }
     ensures { result ≡ safepoint_find (tables_of tables.now) i }
 {
-    let end = tests::range_end(i.safepoints);
-    walk::first_bad(i.safepoints.index as usize, end, |j| safepoint_good(tables, i, j))
+    let indices = tests::indices(i.safepoints);
+    walk::first_bad(indices, |j| safepoint_good(tables, i, j))
 }
 
 pub(crate) fn bad_safepoint(tables: &Tables) -> Option<u16>
     requires { (Placed (tables_of tables.now)) × (length tables.now.safepoints.now ≤ 16384) }
     ensures { result ≡ bad_safepoint (tables_of tables.now) }
 {
-    walk::first_found(0, read::interval_count(tables.intervals), |v| {
+    walk::first_found(0..read::interval_count(tables.intervals), |v| {
         first_safepoint(tables, read::interval_at(tables.intervals, v))
     })
 }

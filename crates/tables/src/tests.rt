@@ -1,9 +1,9 @@
 // The tests that several checks share.
-ghost use Rattle.std.specs.Prelude.{◌≡◌};
+ghost use Rattle.std.specs.Prelude.{◌≡◌, ℕ, ◌<◌};
 ghost use Rattle.words.specs.Points.{within};
-ghost use Rattle.rules.specs.Sound.{range_end, leftovers};
-ghost use Rattle.tables.specs.Entries.{range_fits};
+ghost use Rattle.rules.specs.Sound.{range_end, range_good, leftovers};
 
+use std::ops;
 use words::Range;
 
 // The place of a refusal that names no entry.
@@ -22,12 +22,28 @@ pub(crate) fn range_end(r: Range) -> usize
     r.index as usize + r.count as usize
 }
 
-// Range r starts where the one before it ended, and ends inside a table of `len` entries, at its end unless more ranges follow.
-pub(crate) fn range_good(r: Range, before: usize, more: bool, len: usize) -> bool
-    ensures { result ≡ range_fits r before more len }
+// The indices of the entries of range r.
+pub(crate) fn indices(r: Range) -> ops::Range<usize>
+    ensures start { result.start ≡ r.index }
+    ensures end { result.end ≡ range_end r }
 {
-    let end = range_end(r);
-    r.index as usize == before && end <= len && (more || end == len)
+    r.index as usize..range_end(r)
+}
+
+// Range k of n begins where the one before it ends, and ends inside a table of `len` entries, at its end if it is the last.
+pub(crate) fn range_good<F: Fn(usize) -> Range>(range_at: F, n: usize, len: usize, k: usize) -> bool
+    requires one { k < n }
+    requires callable { (j : ℕ) → j < n → F.pre range_at j }
+    ensures { (ranges : ℕ → _) → ((j : ℕ) (r : _) → j < n → F.post range_at j r → r ≡ ranges j) → result ≡ range_good ranges n len k }
+{
+    let range = range_at(k);
+    let before = if k == 0 {
+        0
+    } else {
+        range_end(range_at(k - 1))
+    };
+    let end = range_end(range);
+    range.index as usize == before && end <= len && (k + 1 < n || end == len)
 }
 
 pub(crate) fn left_over(n: usize, len: usize) -> Option<u16>

@@ -1,8 +1,11 @@
-// Words read: the fields of each table's entry, most significant first.
-ghost use Rattle.std.specs.Prelude.{◌≡◌, ℕ, ◌+◌, ◌*◌, ◌<◌, ◌≤◌};
-ghost use Rattle.words.specs.Packed.{class_in, range_in, fragment_in, interval_in, mention_in, record_in};
+// Words read: the fields of each table's entry, most significant first, by its words and by its index in its table.
+ghost use Rattle.std.specs.Prelude.{◌≡◌, ◌+◌, ◌*◌, ◌<◌, ◌≤◌, length, get_or};
+ghost use Rattle.words.specs.Packed.{class_in, class_at, range_in, register_at, fragment_in, interval_in, interval_at, interval_count, interval_words, mention_in, record_in};
 
 use crate::{Class, Fragment, Interval, Mention, Range, Record};
+
+// So many words make an interval; every other entry of a table is one word.
+pub const INTERVAL_WORDS: usize = 4;
 
 pub fn class_in(w: u32) -> Class
     ensures { result ≡ class_in w }
@@ -78,4 +81,52 @@ pub fn record_in(w0: u32, w1: u32) -> Record
         first: (w1 / 65536 % 65536) as u16,
         last: (w1 % 65536) as u16,
     }
+}
+
+// The entries of the tables, by index.
+pub fn class_at(classes: &[u32], c: usize) -> Class
+    requires { c < length classes.now }
+    ensures { result ≡ class_at classes.now c }
+{
+    class_in(classes[c])
+}
+
+pub fn register_at(registers: &[u32], r: usize) -> Range
+    requires { r < length registers.now }
+    ensures { result ≡ register_at registers.now r }
+{
+    range_in(registers[r])
+}
+
+pub fn fragment_at(fragments: &[u32], f: usize) -> Fragment
+    requires { f < length fragments.now }
+    ensures { result ≡ fragment_in (get_or fragments.now f 0) }
+{
+    fragment_in(fragments[f])
+}
+
+pub fn interval_count(intervals: &[u32]) -> usize
+    ensures { result ≡ interval_count intervals.now }
+{
+    intervals.len() / INTERVAL_WORDS
+}
+
+pub fn interval_at(intervals: &[u32], v: usize) -> Interval
+    requires { v * interval_words + interval_words ≤ length intervals.now }
+    ensures { result ≡ interval_at intervals.now v }
+{
+    let at = v * INTERVAL_WORDS;
+    interval_in(
+        intervals[at],
+        intervals[at + 1],
+        intervals[at + 2],
+        intervals[at + 3],
+    )
+}
+
+pub fn mention_at(mentions: &[u32], j: usize) -> Mention
+    requires { j < length mentions.now }
+    ensures { result ≡ mention_in (get_or mentions.now j 0) }
+{
+    mention_in(mentions[j])
 }

@@ -7,4 +7,4 @@ use Rattle.tables.proofs.WalkLaws.{find_in}
 use Rattle.tables.proofs.safepoints.first_safepoint.Goals as goal
 
 pub returns : goal.returns
-returns c = find_in _ _ _ _ c.range_end-end.ensures (c.first_bad.ensures (safepoint_good (tables_of c.args.tables.now) c.args.i) (λ k b l h p. search rules))
+returns c = let found = c.first_bad.ensures (safepoint_good (tables_of c.args.tables.now) c.args.i) (λ k b l h p. search rules) in search find_in

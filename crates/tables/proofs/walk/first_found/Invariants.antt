@@ -6,5 +6,5 @@ use Rattle.tables.proofs.walk.first_found.Given as goal
 
 abbrev pub invariant-loop-k : goal.invariant-loop-k
 invariant-loop-k g l =
-    (f : ℕ → Option ℕ) → ((k : ℕ) (r : Option ℕ) → l.from ≤ k → k < l.end → goal.F-post g l.find k r → r ≡ f k)
-    → first f l.from (l.end - l.from) ≡ first f l.k (l.end - l.k)
+    (f : ℕ → Option ℕ) → ((k : ℕ) (r : Option ℕ) → l.fn.indices.start ≤ k → k < l.fn.indices.end → goal.F-post g l.find k r → r ≡ f k)
+    → first f l.fn.indices.start (l.fn.indices.end - l.fn.indices.start) ≡ first f l.k (l.fn.indices.end - l.k)

@@ -6,7 +6,6 @@ use mathlib.Core.Path.{◌≡◌, refl, sym, ap, ◌∙◌}
 use mathlib.Core.List.{List, [], ◌∷◌, ◌++◌}
 use native.Mathlib.Omega.{arith}
 use native.Mathlib.Numerals.{add-one}
-use borrow.Author.Fill.{fill_more}
 use lib.ListN.{length, get_or, set, take, drop, replicate, length-set, length-replicate}
 use lib.Seq.{take-suc, take-suc-set, take_all, length-take-le}
 use Rattle.words.specs.Rows.{tab}
@@ -16,10 +15,9 @@ use Rattle.words.specs.declared.Record.{Record}
 use Rattle.words.proofs.Rows.{sets_after}
 use Rattle.rules.specs.declared.Piece.{Piece}
 use Rattle.rules.specs.declared.Place.TheVariants.{Nowhere}
-use Rattle.rules.specs.Room.{capacity}
 use Rattle.rules.specs.State.{State, no_piece, piece, enqueue}
 use Rattle.rules.specs.Run.{whole_interval, unqueued, enqueue_all, begin}
-use Rattle.rules.specs.Call.{record_for, pack_records, write_records, zero_records}
+use Rattle.rules.specs.Call.{record_for, pack_records, write_records}
 use Rattle.rules.proofs.Leaves.{length_pack}
 use Rattle.queue.specs.Heap.{sort}
 use Rattle.store.specs.Cells as cells
@@ -28,23 +26,6 @@ use Rattle.store.specs.StateOf.{state_of, Each, none, more, Sane, Ready, After, 
 use Rattle.store.specs.declared.Counts.{Counts}
 use Rattle.store.proofs.CellLaws.{length_pieces, length_homes}
 use Rattle.store.proofs.StateLaws.{records_are}
-
--- ---- zero
-pub record Zeroed (d o : List ℕ) (m i : ℕ) : Type 0 where
-  pub is : o ≡ replicate i 0 ++ drop i d
-  pub upto : i ≤ m
-  pub long : length o ≡ length d
-
-pub zeroed_starts : (d : List ℕ) (m : ℕ) → Zeroed d d m 0
-zeroed_starts d m = record { is = refl; upto = omega arith; long = refl }
-
--- one word more
-pub zeroed_more : (d o : List ℕ) (cap i : ℕ) → cap ≡ capacity d → i < cap * 2 → Zeroed d o (cap * 2) i → Zeroed d (set o i 0) (cap * 2) (i + 1)
-zeroed_more d o cap i e h z = record { is = rw z.is (fill_more i 0 d (omega arith)); upto = omega arith; long = length-set o i 0 ∙ z.long }
-
-pub zeroed_ends : (d o : List ℕ) (cap i : ℕ) → cap ≡ capacity d → cap * 2 ≤ i → Zeroed d o (cap * 2) i → o ≡ zero_records d
-zeroed_ends d o cap i e h z =
-    let f : i ≡ capacity d * record_words = omega (arith, z.upto) in z.is ∙ ap (λ (k : ℕ). replicate k 0 ++ drop k d) f
 
 -- ---- emit: ps are the pieces
 -- the row of record k, by its piece and the record of that

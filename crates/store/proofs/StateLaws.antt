@@ -302,9 +302,6 @@ module _ (cap : ℕ) (ws : List ℕ) (c : Counts) (k v : ℕ) where
 
   -- a spill, by the home of record k's virtual register
   module _ (ws' : List ℕ) (d : Counts) (z m n a : ℕ) (h : Option ℕ) where
-    pub spilled_first : h ≡ None → After cap ws ws' c d (spill_to (state_of cap ws c) k z None) m n a → After cap ws ws' c d (spill_to (state_of cap ws c) k z h) m n a
-    spilled_first u b = rw u b
-
     pub spilled_again : (t : ℕ) → h ≡ Some t → After cap ws ws' c d (put (state_of cap ws c) k (Slot t)) m n a → After cap ws ws' c d (spill_to (state_of cap ws c) k z h) m n a
     unfolding spill_to
     spilled_again t u b = rw u b

@@ -44,10 +44,10 @@ kind_small Nowhere = omega arith
 kind_small (Register r) = omega arith
 kind_small (Slot t) = omega arith
 
--- the record of a piece, from its kind and number
-pub record_made : (q : Piece) (a b : ℕ) → q.interval < 4096 → a ≡ kind_of q.place → b ≡ number_of q.place
-    → Packable q (record { kind = a; interval = q.interval; spare = 0; number = b; first = q.start; last = q.end })
-record_made q a b l e f = record { is = rw (e, f); kind = omega (arith, e, kind_small q.place); interval = l; spare = omega arith }
+-- the record of a piece, by its place
+pub record_made : (q : Piece) (p : Place) → q.interval < 4096 → q.place ≡ p
+    → Packable q (record { kind = kind_of p; interval = q.interval; spare = 0; number = number_of p; first = q.start; last = q.end })
+record_made q p l e = record { is = rw e; kind = kind_small p; interval = l; spare = omega arith }
 
 -- a place is read back from its kind and number
 place_back : (p : Place) → place_of (kind_of p) (number_of p) ≡ p

@@ -15,7 +15,7 @@ use Rattle.rules.specs.declared.Piece.{Piece}
 use Rattle.rules.specs.declared.Place.{Place}
 use Rattle.rules.specs.declared.Place.TheVariants.{Nowhere, Register, Slot}
 use Rattle.rules.specs.Call.{kind_of, number_of, record_for}
-use Rattle.store.specs.Cells.{place_of, piece_in, Packable, Unpacked, home_in, home_word, HomePacked}
+use Rattle.store.specs.Cells.{place_of, piece_in, Unpacked, home_in, home_word, HomePacked}
 
 -- a place by its kind
 module _ (kind number : ℕ) where
@@ -43,11 +43,6 @@ pub kind_small : (p : Place) → kind_of p < 4
 kind_small Nowhere = omega arith
 kind_small (Register r) = omega arith
 kind_small (Slot t) = omega arith
-
--- the record of a piece, by its place
-pub record_made : (q : Piece) (p : Place) → q.interval < 4096 → q.place ≡ p
-    → Packable q (record { kind = kind_of p; interval = q.interval; spare = 0; number = number_of p; first = q.start; last = q.end })
-record_made q p l e = record { is = rw e; kind = kind_small p; interval = l; spare = omega arith }
 
 -- a place is read back from its kind and number
 place_back : (p : Place) → place_of (kind_of p) (number_of p) ≡ p

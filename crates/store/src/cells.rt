@@ -132,6 +132,9 @@ pub fn put_active(work: &mut [u32], cap: usize, k: usize, j: usize)
     work[cap * ACTIVE + k] = j as u32;
 }
 
+// `put_piece`, `put_home` and `put_active` differ in how many words an entry takes and in how it is packed: one generic function would want a trait of
+// packings with its laws, which is longer than the three.
+
 // The heap's part of the area is lent to `queue`, with what lies behind it.
 pub fn push_key(work: &mut [u32], cap: usize, n: usize, key: u32)
     requires { HeapOpen cap work.old n }

@@ -120,26 +120,16 @@ fn size_of(log: u16) -> u32
     requires { log < 4 }
     ensures { Size log result }
 {
-    match log {
-        0 => 1,
-        1 => 2,
-        2 => 4,
-        _ => 8,
-    }
+    1 << log
 }
 
-// The total rounded up to a multiple of the size. Each divisor is a constant, so that nothing is divided.
+// The total rounded up to a multiple of the size. Nothing is divided.
 fn round_up(total: u32, log: u16) -> u32
     requires total_bound { total ≤ 32760 }
     requires log_bound { log < 4 }
     ensures { Rounded total log result }
 {
-    match log {
-        0 => total,
-        1 => (total + 1) / 2 * 2,
-        2 => (total + 3) / 4 * 4,
-        _ => (total + 7) / 8 * 8,
-    }
+    (total + size_of(log) - 1) >> log << log
 }
 
 // Virtual register v is given its slot.

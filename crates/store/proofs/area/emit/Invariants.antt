@@ -1,4 +1,4 @@
--- `store::area::emit` meets its contract. The invariant: the first k records stand packed, the rest is as it was. The measure is what is left. Assumes nothing.
+-- `store::area::emit` meets its contract. The invariant: the first k records stand packed, the rest is as it was.
 use Rattle.store.specs.StateOf.{state_of}
 use Rattle.store.proofs.AreaLaws.{Emitted}
 use Rattle.store.proofs.area.emit.Given as goal

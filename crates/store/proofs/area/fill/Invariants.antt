@@ -1,4 +1,4 @@
--- `store::area::fill` meets its contract. The invariant: the first k pieces are the whole intervals, the first k homes without a slot. The measure is what is left. Assumes nothing.
+-- `store::area::fill` meets its contract. The invariant: the first k pieces are the whole intervals, the first k homes without a slot.
 use Rattle.store.proofs.AreaLaws.{Filling}
 use Rattle.store.proofs.area.fill.Given as goal
 

@@ -3,13 +3,17 @@ use Prim.Native.Nat.{ℕ, ◌+◌, ◌-◌, ◌*◌, ◌/◌, ◌%◌, ◌^◌, 
 use mathlib.Core.Path.{◌≡◌, refl, sym, ap, ◌∙◌}
 use mathlib.Core.Bool.{Bool, true, false, ◌||◌}
 use native.Mathlib.Omega.{arith}
-use native.Mathlib.Decide.{dec_lt, ℕ_discrete}
-use native.Mathlib.Nat.{mod-lt, one-mul, mul-div_cancel, mul-mod_left}
+use native.Mathlib.Decide.{ℕ_discrete}
+use native.Mathlib.Nat.{one-mul, mul-div_cancel, mul-mod_left}
 use lib.Arith.{mod-mul}
-use lib.Bits.{bit_and, bit_or, bit_xor, and_mask, or_shr, or_mod, xor_shr, xor_mod}
+use lib.Bits.{bit_and, bit_or, bit_xor, and_mask}
 use lib.Dec.{eqb}
-use lib.Pow.{pow_pos, pow-add, pow-lt, shl_exact, shl-shr, shr-shr, high, low, field, mod-mod-pow, ones_split, ones_lt}
+use lib.Pow.{pow_pos, pow-add, pow-lt, shl_exact, shl-shr, shr-shr, high, field, mod-mod-pow, ones_split, ones_lt}
 use borrow.Author.Tests.{eq-eqb, ne_eqb, eqb-true}
+use Rattle.std.specs.Int.{w64}
+use Rattle.std.specs.Int.Bits.{xor_add_and}
+use Rattle.std.proofs.lemmas.Nat.{and-not, and_comm}
+use Rattle.std.proofs.lemmas.Nat.Bits.{bit_at-zero, bit_at_xor, bit_at-pow_other, bit_at_set_same, bit_at_set_other, and_pow}
 use Rattle.words.specs.Choose.{choose}
 use Rattle.activity.specs.Bits.{has_bit, without_bit, WithBit, NoneSet}
 
@@ -18,85 +22,25 @@ pub bit_test : (m r : ℕ) → eqb (bit_and (m / 2 ^ r) 1) 1 ≡ has_bit m r
 unfolding has_bit
 bit_test m r = ap (λ (x : ℕ). eqb x 1) (and_mask (m / 2 ^ r) 1)
 
--- ---- the bits of a power
-power_same : (x : ℕ) → 2 ^ x / 2 ^ x % 2 ≡ 1
-power_same x = ap (λ (n : ℕ). n / 2 ^ x % 2) (sym (one-mul (2 ^ x))) ∙ ap (λ (n : ℕ). n % 2) (shl-shr 1 x)
-
-power_below : (x r : ℕ) → x < r → 2 ^ x / 2 ^ r % 2 ≡ 0
-power_below x r h =
-    let z : 2 ^ x ≡ 0 * 2 ^ r + 2 ^ x = omega arith in
-    ap (λ (n : ℕ). n / 2 ^ r % 2) z ∙ ap (λ (n : ℕ). n % 2) (high 0 r (pow-lt h))
-
-power_above : (r d : ℕ) → 2 ^ (d + 1 + r) / 2 ^ r % 2 ≡ 0
-power_above r d =
-    ap (λ (n : ℕ). n / 2 ^ r % 2) (pow-add 2 (d + 1) r) ∙ ap (λ (n : ℕ). n % 2) (shl-shr (2 ^ (d + 1)) r ∙ pow-add 2 d 1 ∙ shift)
-    ∙ low (2 ^ d) 1 (omega arith)
-  where
-    shift : 2 ^ d * 2 ^ 1 ≡ 2 ^ d * 2 ^ 1 + 0
-    shift = omega arith
-
-power_has : (x r : ℕ) → has_bit (2 ^ x) r ≡ eqb x r
-unfolding has_bit
-power_has x r = go (dec_lt x r) (dec_lt r x)
-  where
-    go : Dec (x < r) → Dec (r < x) → eqb (2 ^ x / 2 ^ r % 2) 1 ≡ eqb x r
-    go (yes h) d = rw (power_below x r h) (sym (ne_eqb x r (λ e. absurd (omega arith))))
-    go (no g) (yes h) =
-        let e : x ≡ x - r - 1 + 1 + r = omega arith in
-        let z : 2 ^ x / 2 ^ r % 2 ≡ 0 = ap (λ (n : ℕ). 2 ^ n / 2 ^ r % 2) e ∙ power_above r (x - r - 1) in
-        rw z (sym (ne_eqb x r (λ q. absurd (omega arith))))
-    go (no g) (no h) =
-        let e : r ≡ x = omega arith in
-        let z : 2 ^ x / 2 ^ r % 2 ≡ 1 = ap (λ (n : ℕ). 2 ^ x / 2 ^ n % 2) e ∙ power_same x in
-        rw z (sym (eq-eqb x r (sym e)))
-
 -- ---- a word with a bit besides
-either : (a b : ℕ) → a < 2 → b < 2 → eqb (bit_or a b) 1 ≡ (eqb b 1 || eqb a 1)
-either a b h l = go (ℕ_discrete a 0) (ℕ_discrete b 0)
-  where
-    go : Dec (a ≡ 0) → Dec (b ≡ 0) → eqb (bit_or a b) 1 ≡ (eqb b 1 || eqb a 1)
-    go (yes e) (yes f) = rw (e, f) refl
-    go (yes e) (no g) = let f : b ≡ 1 = omega arith in rw (e, f) refl
-    go (no g) (yes f) = let e : a ≡ 1 = omega arith in rw (e, f) refl
-    go (no g) (no k) = let e : a ≡ 1 = omega arith in let f : b ≡ 1 = omega arith in rw (e, f) refl
-
-or_has : (m n r : ℕ) → has_bit (bit_or m n) r ≡ (has_bit n r || has_bit m r)
-unfolding has_bit
-or_has m n r =
-    ap (λ (x : ℕ). eqb (x % 2) 1) (or_shr m n r) ∙ ap (λ (x : ℕ). eqb x 1) (or_mod (m / 2 ^ r) (n / 2 ^ r) 1)
-    ∙ either (m / 2 ^ r % 2) (n / 2 ^ r % 2) (mod-lt (m / 2 ^ r) (omega arith)) (mod-lt (n / 2 ^ r) (omega arith))
-
 pub bit_set : (m x : ℕ) → x < 64 → WithBit m x (bit_or m ((1 * 2 ^ x) % 2 ^ 64))
-bit_set m x h =
-    let e : (1 * 2 ^ x) % 2 ^ 64 ≡ 2 ^ x = shl_exact 1 x 64 (omega arith) (omega arith) ∙ one-mul (2 ^ x) in
-    record { is = λ r l. rw e (or_has m (2 ^ x) r ∙ rw (power_has x r) refl) }
+unfolding has_bit
+bit_set m x h = record { is = λ r l. go r (ℕ_discrete x r) }
+  where
+    go : (r : ℕ) → Dec (x ≡ r) → eqb (bit_or m ((1 * 2 ^ x) % 2 ^ 64) / 2 ^ r % 2) 1 ≡ (eqb x r || eqb (m / 2 ^ r % 2) 1)
+    go r (yes e) = let z : bit_or m ((1 * 2 ^ x) % 2 ^ 64) / 2 ^ r % 2 ≡ 1 = rw (← e) (bit_at_set_same w64 m x h) in rw (z, eq-eqb x r e) refl
+    go r (no d) = rw (bit_at_set_other w64 m x h r (λ q. d (sym q)), ne_eqb x r d) refl
 
 pub no_bit : (r : ℕ) → has_bit 0 r ≡ false
 unfolding has_bit
-no_bit r = let e : 0 ≡ 0 * 2 ^ r = omega arith in let z : 0 / 2 ^ r ≡ 0 = ap (λ (n : ℕ). n / 2 ^ r) e ∙ shl-shr 0 r in rw z refl
+no_bit r = rw (bit_at-zero r) refl
 
 -- ---- a word without a bit
-differ : (a b : ℕ) → a < 2 → b ≡ 0 → eqb (bit_xor a b) 1 ≡ eqb a 1
-differ a b h f = go (ℕ_discrete a 0)
-  where
-    go : Dec (a ≡ 0) → eqb (bit_xor a b) 1 ≡ eqb a 1
-    go (yes e) = rw (e, f) refl
-    go (no g) = let e : a ≡ 1 = omega arith in rw (e, f) refl
-
-power_other : (x r : ℕ) → (x ≡ r → ⊥) → 2 ^ x / 2 ^ r % 2 ≡ 0
-power_other x r g = go (dec_lt x r)
-  where
-    go : Dec (x < r) → 2 ^ x / 2 ^ r % 2 ≡ 0
-    go (yes h) = power_below x r h
-    go (no h) =
-        let e : x ≡ x - r - 1 + 1 + r = omega arith in
-        ap (λ (n : ℕ). 2 ^ n / 2 ^ r % 2) e ∙ power_above r (x - r - 1)
-
 xor_other : (m x r : ℕ) → (x ≡ r → ⊥) → has_bit (bit_xor m (2 ^ x)) r ≡ has_bit m r
 unfolding has_bit
-xor_other m x r g =
-    ap (λ (n : ℕ). eqb (n % 2) 1) (xor_shr m (2 ^ x) r) ∙ ap (λ (n : ℕ). eqb n 1) (xor_mod (m / 2 ^ r) (2 ^ x / 2 ^ r) 1)
-    ∙ differ (m / 2 ^ r % 2) (2 ^ x / 2 ^ r % 2) (mod-lt (m / 2 ^ r) (omega arith)) (power_other x r g)
+xor_other m x r d =
+    let z : bit_xor m (2 ^ x) / 2 ^ r % 2 ≡ m / 2 ^ r % 2 = bit_at_xor m (2 ^ x) r ∙ rw (bit_at-pow_other x r (λ q. d (sym q))) (omega arith) in
+    rw z refl
 
 -- the others stay
 pub without_other : (m x r : ℕ) → (x ≡ r → ⊥) → has_bit (without_bit m x) r ≡ has_bit m r
@@ -112,16 +56,24 @@ pub without_none : (m x : ℕ) → has_bit m x ≡ false → without_bit m x ≡
 unfolding without_bit
 without_none m x h = rw h refl
 
-module _ (m x : ℕ) (b : Bool) (e : b ≡ has_bit m x) where
-  pub bit_cleared : x < 64 → b ≡ true → bit_xor m ((1 * 2 ^ x) % 2 ^ 64) ≡ without_bit m x
-  unfolding without_bit
-  bit_cleared h q =
-      let w : (1 * 2 ^ x) % 2 ^ 64 ≡ 2 ^ x = shl_exact 1 x 64 (omega arith) (omega arith) ∙ one-mul (2 ^ x) in
-      let t : has_bit m x ≡ true = sym e ∙ q in
-      rw (w, t) refl
+-- what the code clears
+pub bit_cleared : (m x : ℕ) → m < 2 ^ 64 → x < 64 → bit_and m (18446744073709551615 - (1 * 2 ^ x) % 2 ^ 64) ≡ without_bit m x
+unfolding without_bit has_bit
+bit_cleared m x l h =
+    let w : (1 * 2 ^ x) % 2 ^ 64 ≡ 2 ^ x = shl_exact 1 x 64 (omega arith) (omega arith) ∙ one-mul (2 ^ x) in
+    rw w (go (ℕ_discrete (m / 2 ^ x % 2) 1))
+  where
+    rest : bit_and m (18446744073709551615 - 2 ^ x) + m / 2 ^ x % 2 * 2 ^ x ≡ m
+    rest = omega (arith, and-not 64 (2 ^ x) m (pow-lt h) l, and_comm m (18446744073709551615 - 2 ^ x), and_comm (2 ^ x) m, and_pow m x)
 
-  pub bit_kept : b ≡ false → m ≡ without_bit m x
-  bit_kept q = sym (without_none m x (sym e ∙ q))
+    go : Dec (m / 2 ^ x % 2 ≡ 1) → bit_and m (18446744073709551615 - 2 ^ x) ≡ choose (eqb (m / 2 ^ x % 2) 1) (bit_xor m (2 ^ x)) m
+    go (yes e) =
+        let k : m / 2 ^ x % 2 * 2 ^ x ≡ 2 ^ x = rw e (omega arith) in
+        rw (eq-eqb _ _ e) (omega (arith, rest, xor_add_and m (2 ^ x), and_pow m x, k))
+    go (no d) =
+        let z : m / 2 ^ x % 2 ≡ 0 = omega arith in
+        let k : m / 2 ^ x % 2 * 2 ^ x ≡ 0 = rw z (omega arith) in
+        rw (ne_eqb _ _ d) (omega (arith, rest, k))
 
 -- ---- none of some bits
 -- what the code tests: the bits below first are shifted out, then those above
@@ -163,9 +115,6 @@ class_none m first count h z r a l =
     let w : m / 2 ^ r ≡ m / 2 ^ first / 2 ^ (r - first) = ap (λ (n : ℕ). m / 2 ^ n) e ∙ sym (shr-shr m first (r - first)) in
     let b : m / 2 ^ first / 2 ^ (r - first) % 2 ≡ 0 = low_bit (m / 2 ^ first) count (r - first) (omega arith) (low_none (m / 2 ^ first) count (omega arith) z) in
     rw (w, b) refl
-
-pub no_registers : (m first count : ℕ) → count ≡ 0 → NoneSet m first count true
-no_registers m first count e = record { none = λ q r a l. absurd (omega arith) }
 
 pub bits_tested : (m first count : ℕ) (b : Bool) → first + count ≤ 64 → b ≡ eqb ((m / 2 ^ first * 2 ^ (64 - count)) % 2 ^ 64) 0 → NoneSet m first count b
 bits_tested m first count b h e = record { none = λ q. class_none m first count h (eqb-true _ 0 (sym e ∙ q)) }

@@ -149,15 +149,6 @@ module _ (rs fs : List ℕ) (S : ℕ) where
           absurd (g (let z : stop_of rs r - cursor t r ≡ 0 = omega arith in rw z past))
       at (no d) g = get_or-set_other t.cursors r k f 0 (λ q. d (sym q)) ∙ s k b (sym (other d) ∙ e)
 
--- what the code clears
-pub left_none : (m r f stop m' : ℕ) → f ≡ stop → m' ≡ without_bit m r → m' ≡ left_of m r f stop
-unfolding left_of
-left_none m r f stop m' e w = rw (eq-eqb f stop e) w
-
-pub left_some : (m r f stop : ℕ) → (f ≡ stop → ⊥) → m ≡ left_of m r f stop
-unfolding left_of
-left_some m r f stop d = rw (ne_eqb f stop d) refl
-
 -- and after all of a class have
 spent_from : (rs fs : List ℕ) (S n r : ℕ) (t : Tracker) → r + n ≤ length rs → r + n ≤ length t.cursors → ((k : ℕ) → k < length rs → cursor t k ≤ stop_of rs k)
     → Spent rs fs S t → Spent rs fs S (advanced_from rs fs S r n t)

@@ -7,11 +7,10 @@ use native.Mathlib.Omega.{arith}
 use native.Mathlib.Numerals.{add-one}
 use lib.ListN.{length, get_or, set, take, drop, length-set}
 use lib.Seq.{take-suc, take-suc-set, drop-set-lt, drop-drop, get_or-drop, get_or-take}
-use lib.Dec.{leb}
 use Rattle.words.specs.Choose.{choose}
 use Rattle.rules.specs.declared.Piece.{Piece}
 use Rattle.rules.specs.State.{no_piece}
-use Rattle.rules.specs.Steps.{keep, in_register, drop_ended}
+use Rattle.rules.specs.Steps.{keep, drop_ended}
 use Rattle.queue.specs.Heap.{Ord}
 use Rattle.store.specs.declared.Counts.{Counts}
 use Rattle.store.specs.Cells.{Cells, cells, with_active, Becomes, PieceAt}
@@ -87,10 +86,6 @@ module _ {f : ℕ → Bool} {js ks : List ℕ} {i kept : ℕ} (s : Sifting f js 
       go false e = record { front = rw (next, e, append-nil) s.front; back = sifting_later; long = s.long; low = omega (arith, s.low) }
 
 -- ---- the work area
--- record j stays or not, as the piece that was read says
-pub stays_is : (S : ℕ) (q : Piece) (t : Bool) → t ≡ in_register q.place → t ≡ true → leb S q.end ≡ stays_at S q
-stays_is S q t e f = simp (sym e, f)
-
 module _ (cap : ℕ) (ws : List ℕ) (i S j : ℕ) (q : Piece) (t : Bool) (a : j ≡ get_or (cells cap ws).active i 0) (p : PieceAt cap ws j q) (e : t ≡ stays_at S q) where
   -- what was read decides
   read_stays : stay_in (cells cap ws).pieces S (get_or (cells cap ws).active i 0) ≡ t

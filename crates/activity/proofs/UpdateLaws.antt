@@ -15,16 +15,13 @@ use Rattle.words.proofs.Fold.{one_less, none_left}
 use Rattle.activity.specs.declared.Tracker.{Tracker}
 use Rattle.activity.specs.Bits.{NoneSet}
 use Rattle.activity.specs.Fixed.{stop_of, last_at}
-use Rattle.activity.specs.Cursors.{cursor, with_active, with_cursor, left_of, moved, Moved, advanced_from, Ready, fresh_from, fresh_of, none_active}
+use Rattle.activity.specs.Cursors.{cursor, with_active, with_cursor, left_of, moved, Moved, advanced_from, Ready, fresh_from, fresh_of}
 use Rattle.activity.proofs.CursorLaws.{nothing_moves}
 
 -- one cursor on its way
 pub record Moving (fs : List ℕ) (S from stop f : ℕ) : Type 0 where
   pub is : moved fs S f (stop - f) ≡ moved fs S from (stop - from)
   pub upto : f ≤ stop
-
-pub moving_starts : (fs : List ℕ) (S from stop : ℕ) → from ≤ stop → Moving fs S from stop from
-moving_starts fs S from stop h = record { is = refl; upto = h }
 
 module _ {fs : List ℕ} {S from stop f : ℕ} (m : Moving fs S from stop f) where
   module _ (w : Fragment) (e : w ≡ fragment_in (get_or fs f 0)) (h : f < stop) where
@@ -43,9 +40,9 @@ module _ {fs : List ℕ} {S from stop f : ℕ} (m : Moving fs S from stop f) whe
         record { is = sym (rw (one_less f stop h) (simp (le-ltb (last_at fs f) S a))) ∙ m.is; high = m.upto }
 
   -- or past the last
-  pub moving_ends : stop ≤ f → Moved fs from stop S f
+  pub moving_ends : stop ≤ f → Moved fs from stop S stop
   unfolding moved
-  moving_ends h = record { is = sym (rw (none_left f stop h) refl) ∙ m.is; high = m.upto }
+  moving_ends h = let e : stop ≡ f = omega (arith, m.upto) in record { is = e ∙ sym (rw (none_left f stop h) refl) ∙ m.is; high = omega arith }
 
 -- nothing is ahead in the class
 pub updating_none : {rs fs : List ℕ} {t : Tracker} {first count : ℕ} (S active : ℕ) (b : Bool) → Ready rs fs t first count → NoneSet t.ahead first count b → b ≡ true
@@ -53,42 +50,14 @@ pub updating_none : {rs fs : List ℕ} {t : Tracker} {first count : ℕ} (S acti
 updating_none {rs} {fs} {t} {first} {count} S active b y n e =
     sym (nothing_moves rs fs S count first (with_active active t) (n.none e) (λ k a l. y.spent k (omega (arith, y.inside)) (n.none e k a l)))
 
--- the class lies in the word
-pub class_bits : {rs fs : List ℕ} {t : Tracker} {first count : ℕ} → Ready rs fs t first count → first + count ≤ 64
-class_bits y = omega (arith, y.inside, y.fixed.few)
-
 -- the cursors of a class on their way
 pub record Updating (rs fs : List ℕ) (S first count : ℕ) (a u : Tracker) (r : ℕ) : Type 0 where
   pub is : advanced_from rs fs S r (first + count - r) u ≡ advanced_from rs fs S first count a
   pub upto : r ≤ first + count
   pub high : (k : ℕ) → r ≤ k → k < length rs → cursor u k ≤ stop_of rs k
 
-pub updating_starts : {rs fs : List ℕ} {t : Tracker} {first count : ℕ} (S active : ℕ) → Ready rs fs t first count
-    → Updating rs fs S first count (with_active active t) (with_active active t) first
-updating_starts {first = first} {count = count} S active y =
-    record { is = let e : first + count - first ≡ count = omega arith in rw e; upto = omega arith; high = λ k a h. y.high k h }
-
 module _ {rs fs : List ℕ} {t : Tracker} {first count : ℕ} (y : Ready rs fs t first count) (r : ℕ) (h : r < first + count) where
-  -- a register of the class is one of the table, and has a cursor
-  pub turn_register : r < length rs
-  turn_register = omega (arith, y.inside)
-
-  pub turn_cursor : r < 64
-  turn_cursor = omega (arith, y.inside, y.fixed.few)
-
   module _ (range : Range) (e : range ≡ range_in (get_or rs r 0)) where
-    -- its fragments lie in the table
-    pub turn_stop : range.index + range.count ≤ length fs
-    turn_stop = rw e (y.fixed.inside r turn_register)
-
-    -- its cursor stands among them
-    pub turn_from : {S : ℕ} {a u : Tracker} → Updating rs fs S first count a u r → cursor u r ≤ range.index + range.count
-    turn_from g = rw e (g.high r (omega arith) turn_register)
-
-    -- and fits when moved
-    pub turn_fits : (from S f : ℕ) → Moved fs from (range.index + range.count) S f → f < 65536
-    turn_fits from S f m = omega (arith, m.high, turn_stop, y.fixed.small)
-
     pub updating_more : {S : ℕ} {a u : Tracker} (f m' : ℕ) → Updating rs fs S first count a u r → Moved fs (cursor u r) (range.index + range.count) S f
         → m' ≡ left_of u.ahead r f (range.index + range.count)
         → Updating rs fs S first count a (record { active = u.active; ahead = m'; cursors = set u.cursors r f }) (r + 1)
@@ -110,9 +79,6 @@ updating_ends {first = first} {count = count} {r = r} g h = sym (rw (none_left r
 pub record Setting (rs : List ℕ) (t : Tracker) (r : ℕ) : Type 0 where
   pub is : fresh_from rs r (length rs - r) t ≡ fresh_of rs
   pub upto : r ≤ length rs
-
-pub setting_starts : (rs : List ℕ) → Setting rs none_active 0
-setting_starts rs = record { is = let e : length rs - 0 ≡ length rs = omega arith in rw e; upto = omega arith }
 
 pub setting_more : {rs : List ℕ} {t : Tracker} {r : ℕ} (range : Range) → Setting rs t r → range ≡ range_in (get_or rs r 0) → r < length rs
     → Setting rs (with_cursor t r range.index) (r + 1)

@@ -24,10 +24,7 @@ pub(crate) fn without_bit(mask: u64, r: usize) -> u64
     requires { r < 64 }
     ensures { result ≡ without_bit mask r }
 {
-    if has_bit(mask, r) {
-        return mask ^ (ONE << r);
-    }
-    mask
+    mask & !(ONE << r)
 }
 
 // None of `count` bits from `first` on.
@@ -35,8 +32,5 @@ pub fn none_set(mask: u64, first: usize, count: usize) -> bool
     requires { first + count ≤ 64 }
     ensures { NoneSet mask first count result }
 {
-    if count == 0 {
-        return true;
-    }
-    (mask >> first) << (BITS - count) == 0
+    count == 0 || (mask >> first) << (BITS - count) == 0
 }

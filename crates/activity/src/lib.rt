@@ -30,11 +30,8 @@ pub fn fresh(registers: &[u32]) -> Tracker
         ahead: u64::MAX,
         cursors: [0; REGISTERS],
     };
-    let mut r = 0;
-    while r < registers.len() {
-        let range = read::range_in(registers[r]);
-        t.cursors[r] = range.index;
-        r += 1;
+    for r in 0..registers.len() {
+        t.cursors[r] = read::range_in(registers[r]).index;
     }
     t
 }
@@ -44,61 +41,29 @@ fn moved_past(fragments: &[u32], from: u16, stop: usize, start: u16) -> usize
     requires { (from ≤ stop) × (stop ≤ length fragments.now) }
     ensures { Moved fragments.now from stop start result }
 {
-    let mut f = from as usize;
-    while f < stop {
-        let fragment = read::fragment_in(fragments[f]);
-        if start <= fragment.last {
+    for f in from as usize..stop {
+        if start <= read::fragment_in(fragments[f]).last {
             return f;
         }
-        f += 1;
     }
-    f
+    stop
 }
 
 // A register whose cursor stands past its fragments has none ahead.
+#[tactic(auto, unfolding(crate::specs::Cursors::left_of))]
 fn left(ahead: u64, r: usize, f: usize, stop: usize) -> u64
     requires { r < 64 }
     ensures { result ≡ left_of ahead r f stop }
 {
     if f == stop {
-        return bits::without_bit(ahead, r);
+        bits::without_bit(ahead, r)
+    } else {
+        ahead
     }
-    ahead
 }
 
-// For the popped piece's class: so many records are active, and the cursors of its registers move.
-fn updated(
-    t: Tracker,
-    registers: &[u32],
-    fragments: &[u32],
-    first: usize,
-    count: usize,
-    start: u16,
-    active: u16,
-) -> Tracker
-    requires { Ready registers.now fragments.now t first count }
-    ensures { result ≡ advanced registers.now fragments.now t first count start active }
-{
-    let mut u = t;
-    u.active = active;
-    if bits::none_set(u.ahead, first, count) {
-        return u;
-    }
-    let end = first + count;
-    let mut r = first;
-    while r < end {
-        let range = read::range_in(registers[r]);
-        let stop = range.index as usize + range.count as usize;
-        let f = moved_past(fragments, u.cursors[r], stop, start);
-        u.cursors[r] = f as u16;
-        u.ahead = left(u.ahead, r, f, stop);
-        r += 1;
-    }
-    u
-}
-
-// The tracker is updated in place, at each start.
-fn update(
+// For the popped piece's class, at each start: so many records are active, and the cursors of its registers move.
+pub fn update(
     t: &mut Tracker,
     registers: &[u32],
     fragments: &[u32],
@@ -110,12 +75,22 @@ fn update(
     requires { Ready registers.now fragments.now t.old first count }
     ensures { t.new ≡ advanced registers.now fragments.now t.old first count start active }
 {
-    *t = updated(*t, registers, fragments, first, count, start, active);
+    t.active = active;
+    if bits::none_set(t.ahead, first, count) {
+        return;
+    }
+    for r in first..first + count {
+        let range = read::range_in(registers[r]);
+        let stop = range.index as usize + range.count as usize;
+        let f = moved_past(fragments, t.cursors[r], stop, start);
+        t.cursors[r] = f as u16;
+        t.ahead = left(t.ahead, r, f, stop);
+    }
 }
 
-// By value again: the tracker is lent to `update` and handed back.
+// The same by value.
 pub fn tracked(
-    t: Tracker,
+    mut t: Tracker,
     registers: &[u32],
     fragments: &[u32],
     first: usize,
@@ -126,7 +101,6 @@ pub fn tracked(
     requires { Ready registers.now fragments.now t first count }
     ensures { result ≡ advanced registers.now fragments.now t first count start active }
 {
-    let mut u = t;
-    update(&mut u, registers, fragments, first, count, start, active);
-    u
+    update(&mut t, registers, fragments, first, count, start, active);
+    t
 }

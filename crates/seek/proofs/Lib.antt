@@ -1,2 +1,2 @@
--- The laws of halving.
+-- The words of a part, as the search in it needs them.
 pub mod SeekLaws

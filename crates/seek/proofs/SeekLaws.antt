@@ -1,58 +1,35 @@
--- Halving what is still to be searched.
-use Prim.Native.Nat.{ℕ, ◌+◌, ◌-◌, ◌/◌, ◌<◌, ◌≤◌}
-use mathlib.Core.List.{List}
-use mathlib.Core.Path.{◌≡◌}
-use native.Mathlib.Omega.{arith}
+-- The words lo..hi of a table as a list of its own, in which std's search runs.
+use Rattle.std.proofs.Common.{◌≡◌, ℕ, ◌+◌, ◌-◌, ◌<◌, ◌≤◌, true, false, ltb, List, length, get_or, take, drop, ltb-true, ltb-false, refl, ap, ◌∙◌, arith}
 use native.Mathlib.Decide.{dec_lt}
-use lib.ListN.{get_or}
-use Rattle.seek.specs.Seek.{Rising, Seeking, Halved, Lower}
+use Rattle.std.specs.List.Sorted.{IsNonDecreasingBy, IsPartitionPoint}
+use Rattle.std.proofs.lemmas.List.{get_or-take, get_or-drop, length-take-le, length-drop}
+use Rattle.std.proofs.lemmas.List.Sorted.{IsNonDecreasingBy-from_default}
+use Rattle.seek.specs.Seek.{Rising, Lower}
 
-module _ (t : List ℕ) (lo hi x a b m w : ℕ) (r : Rising t lo hi) (s : Seeking t lo hi x a b) (h : a < b) (e : m ≡ a + (b - a) / 2) (f : w ≡ get_or t m 0) where
-  inside : (a ≤ m) × (m < b)
-  inside = (omega arith, omega arith)
+module _ (t : List ℕ) (lo hi : ℕ) (r : Rising t lo hi) where
+  abbrev part : List ℕ
+  part = take (hi - lo) (drop lo t)
 
-  pub halve_up : w < x → Halved t lo hi x a b (record { from = m + 1; to = b })
-  halve_up l =
-      record {
-        still =
-            record {
-              from = omega (arith, inside.0, s.from);
-              mid = omega (arith, inside.1);
-              to = s.to;
-              below = λ i u v. go i u v (dec_lt i m);
-              above = s.above;
-            };
-        less = omega (arith, inside.0, inside.1);
-      }
+  length_part : length part ≡ hi - lo
+  length_part = length-take-le (hi - lo) (drop lo t) (omega (arith, length-drop lo t, r.order, r.within))
+
+  part_at : (k i : ℕ) → k < hi - lo → lo + k ≡ i → get_or part k 0 ≡ get_or t i 0
+  part_at k i h e = get_or-take (hi - lo) (drop lo t) k 0 h ∙ get_or-drop lo t k 0 ∙ ap (λ j. get_or t j 0) e
+
+  pub part_ascends : IsNonDecreasingBy (λ w. w) part
+  part_ascends = IsNonDecreasingBy-from_default (λ w. w) _ 0 (λ i j u v. ordered i j (dec_lt i j) u (rw length_part at v))
     where
-      go : (i : ℕ) → lo ≤ i → i < m + 1 → Dec (i < m) → get_or t i 0 < x
-      go i u v (yes g) = let k : get_or t i 0 < get_or t m 0 = r.up i m u g (omega (arith, inside.1, s.to)) in omega arith
-      go i u v (no g) = let k : i ≡ m = omega arith in rw k (omega arith)
+      ordered : (i j : ℕ) → Dec (i < j) → i ≤ j → j < hi - lo → get_or part i 0 ≤ get_or part j 0
+      ordered i j (yes w) u v = omega (arith, part_at i _ (omega arith) refl, part_at j _ v refl, r.up (lo + i) (lo + j) (omega arith) (omega arith) (omega arith))
+      ordered i j (no w) u v = let e : i ≡ j = omega arith in rw e (omega arith)
 
-  pub halve_down : x ≤ w → Halved t lo hi x a b (record { from = a; to = m })
-  halve_down l =
+  pub part_found : (x n : ℕ) → n ≤ length part → IsPartitionPoint (λ w. ltb w x ≡ true) (λ w. ltb w x ≡ false) part n → Lower t lo hi x (lo + n)
+  part_found x n h p =
+      let e = length_part in
       record {
-        still =
-            record {
-              from = s.from;
-              mid = inside.0;
-              to = omega (arith, inside.1, s.to);
-              below = s.below;
-              above = λ i u v. go i u v (dec_lt m i);
-            };
-        less = omega (arith, inside.0, inside.1);
+        from = omega arith;
+        mid = omega arith;
+        to = omega (arith, r.order);
+        below = λ i u v. rw (← part_at (i - lo) i (omega arith) (omega arith)) (ltb-true _ _ (p.0 (i - lo) 0 (omega arith) (omega arith)));
+        above = λ i u v. rw (← part_at (i - lo) i (omega arith) (omega arith)) (ltb-false _ _ (p.1 (i - lo) 0 (omega arith) (omega arith)));
       }
-    where
-      go : (i : ℕ) → m ≤ i → i < hi → Dec (m < i) → x ≤ get_or t i 0
-      go i u v (yes g) = let k : get_or t m 0 < get_or t i 0 = r.up m i (omega (arith, s.from, inside.0)) g v in omega arith
-      go i u v (no g) = let k : i ≡ m = omega arith in rw k (omega arith)
-
-pub seeking_starts : (t : List ℕ) (lo hi x : ℕ) → Rising t lo hi → Seeking t lo hi x lo hi
-seeking_starts t lo hi x r =
-    record { from = omega arith; mid = r.order; to = omega arith; below = λ i u v. absurd (none i u v); above = λ i u v. absurd (none i u v) }
-  where
-    none : {k : ℕ} (i : ℕ) → k ≤ i → i < k → ⊥
-    none i u v = omega arith
-
-pub seeking_ends : (t : List ℕ) (lo hi x a b : ℕ) → Seeking t lo hi x a b → b ≤ a → Lower t lo hi x a
-seeking_ends t lo hi x a b s h = let e : b ≡ a = omega (arith, s.mid) in rw e at s

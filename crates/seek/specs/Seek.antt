@@ -1,6 +1,5 @@
 -- Facts for contracts: searching a table whose words ascend.
-use Rattle.std.specs.Prelude.{ℕ, ◌-◌, ◌<◌, ◌≤◌, List, get_or, length}
-use Rattle.seek.specs.declared.Part.{Part}
+use Rattle.std.specs.Prelude.{ℕ, ◌<◌, ◌≤◌, List, get_or, length}
 
 -- the words at lo..hi, the end left out, ascend strictly
 pub record Rising (table : List ℕ) (lo hi : ℕ) : Type 0 where
@@ -15,11 +14,6 @@ pub record Seeking (table : List ℕ) (lo hi x a b : ℕ) : Type 0 where
   pub to : b ≤ hi
   pub below : (i : ℕ) → lo ≤ i → i < a → get_or table i 0 < x
   pub above : (i : ℕ) → b ≤ i → i < hi → x ≤ get_or table i 0
-
--- the part s is a smaller one to seek in
-pub record Halved (table : List ℕ) (lo hi x a b : ℕ) (s : Part) : Type 0 where
-  pub still : Seeking table lo hi x s.from s.to
-  pub less : s.to - s.from < b - a
 
 -- r is the first index of lo..hi whose word is at least x, or hi
 abbrev pub Lower : List ℕ → ℕ → ℕ → ℕ → ℕ → Type 0

@@ -6,52 +6,25 @@ use mathlib.Core.Path.{◌≡◌, refl, sym, ap, ◌∙◌}
 use mathlib.Core.List.{List, [], ◌∷◌, ◌++◌}
 use native.Mathlib.Omega.{arith}
 use native.Mathlib.Numerals.{add-one}
-use borrow.Author.Fill.{fill_more}
 use lib.ListN.{length, get_or, set, take, drop, replicate, length-set, length-replicate}
 use lib.Seq.{take-suc, take-suc-set, take_all, length-take-le}
 use Rattle.words.specs.Rows.{tab}
-use Rattle.words.specs.Packed.{interval_at, interval_count, record_row, record_words}
-use Rattle.words.specs.declared.Interval.{Interval}
-use Rattle.words.specs.declared.Record.{Record}
+use Rattle.words.specs.Packed.{interval_count, record_row, record_words}
 use Rattle.words.proofs.Rows.{sets_after}
 use Rattle.rules.specs.declared.Piece.{Piece}
-use Rattle.rules.specs.declared.Place.TheVariants.{Nowhere}
-use Rattle.rules.specs.Room.{capacity}
 use Rattle.rules.specs.State.{State, no_piece, piece, enqueue}
 use Rattle.rules.specs.Run.{whole_interval, unqueued, enqueue_all, begin}
-use Rattle.rules.specs.Call.{record_for, pack_records, write_records, zero_records}
+use Rattle.rules.specs.Call.{record_for, pack_records, write_records}
 use Rattle.rules.proofs.Leaves.{length_pack}
 use Rattle.queue.specs.Heap.{sort}
 use Rattle.store.specs.Cells as cells
 use Rattle.store.specs.Cells.{Cells, cells, Becomes, Packable}
-use Rattle.store.specs.StateOf.{state_of, Each, none, more, Sane, Ready, After, Got, Loads, Whole, Filled, Loaded}
+use Rattle.store.specs.StateOf.{state_of, Each, none, more, Sane, Ready, After, Loads, Whole, Filled, Loaded}
 use Rattle.store.specs.declared.Counts.{Counts}
 use Rattle.store.proofs.CellLaws.{length_pieces, length_homes}
 use Rattle.store.proofs.StateLaws.{records_are}
 
--- ---- zero
-pub record Zeroed (d o : List ℕ) (m i : ℕ) : Type 0 where
-  pub is : o ≡ replicate i 0 ++ drop i d
-  pub upto : i ≤ m
-  pub long : length o ≡ length d
-
-pub zeroed_starts : (d : List ℕ) (m : ℕ) → Zeroed d d m 0
-zeroed_starts d m = record { is = refl; upto = omega arith; long = refl }
-
--- one word more
-pub zeroed_more : (d o : List ℕ) (cap i : ℕ) → cap ≡ capacity d → i < cap * 2 → Zeroed d o (cap * 2) i → Zeroed d (set o i 0) (cap * 2) (i + 1)
-zeroed_more d o cap i e h z = record { is = rw z.is (fill_more i 0 d (omega arith)); upto = omega arith; long = length-set o i 0 ∙ z.long }
-
-pub zeroed_ends : (d o : List ℕ) (cap i : ℕ) → cap ≡ capacity d → cap * 2 ≤ i → Zeroed d o (cap * 2) i → o ≡ zero_records d
-zeroed_ends d o cap i e h z =
-    let f : i ≡ capacity d * record_words = omega (arith, z.upto) in z.is ∙ ap (λ (k : ℕ). replicate k 0 ++ drop k d) f
-
 -- ---- emit: ps are the pieces
--- the row of record k, by its piece and the record of that
-pub row_made : (cap : ℕ) (ws : List ℕ) (c : Counts) (k : ℕ) (q : Piece) (r : Record) (row : List ℕ) → Got cap ws c k q → Packable q r → row ≡ record_row r
-    → row ≡ record_row (record_for (piece (state_of cap ws c) k))
-row_made cap ws c k q r row g p e = e ∙ ap record_row (p.is ∙ ap record_for g.is)
-
 pack_snoc : (ps : List Piece) (p : Piece) → pack_records (ps ++ (p ∷ [])) ≡ pack_records ps ++ record_row (record_for p)
 unfolding pack_records
 pack_snoc [] p = refl
@@ -106,11 +79,6 @@ tab_snoc (suc n) f = ap (λ l. f 0 ∷ l) (tab_snoc n (λ k. f (suc k)))
 replicate_snoc : {A : Type 0} (n : ℕ) (a : A) → replicate (suc n) a ≡ replicate n a ++ (a ∷ [])
 replicate_snoc zero a = refl
 replicate_snoc (suc n) a = ap (λ l. a ∷ l) (replicate_snoc n a)
-
--- the piece of interval v, by the interval that its four words are
-pub whole_made : (t : List ℕ) (v : ℕ) (i : Interval) → v < 4096 → i ≡ interval_at t v
-    → Whole t v (record { interval = v; place = Nowhere; start = i.start; end = i.end; mentions = i.mentions; safepoints = i.safepoints })
-whole_made t v i h e = record { is = rw e; small = h }
 
 pub record Filling (cap : ℕ) (t d ws : List ℕ) (k : ℕ) : Type 0 where
   pub filled : Filled cap t d ws k

@@ -1,7 +1,7 @@
 -- From cells to states: what each primitive does to the state that the cells hold.
 -- Assumes nothing.
 use Rattle.std.specs.Prelude.{Option, None, Some}
-use Prim.Native.Nat.{ℕ, ◌+◌, ◌-◌, ◌*◌, ◌/◌, ◌%◌, ◌^◌, ◌≤◌, ◌<◌}
+use Prim.Native.Nat.{ℕ, zero, suc, ◌+◌, ◌-◌, ◌*◌, ◌%◌, ◌^◌, ◌≤◌, ◌<◌}
 use mathlib.Core.Path.{◌≡◌, refl, sym, ap, subst, ◌∙◌}
 use mathlib.Core.List.{List, [], ◌∷◌, ◌++◌}
 use native.Mathlib.Omega.{arith}
@@ -206,46 +206,13 @@ module _ (cap : ℕ) (ws ws' : List ℕ) (c : Counts) where
       is : state_of cap ws' (with_total total c) ≡ with_homes (set (state_of cap ws c).homes v (Some t)) total (state_of cap ws c)
       is = unfold state_of in ap (λ (y : Cells). state_in y (with_total total c)) b.is ∙ rw (take-set-lt c.intervals (cells cap ws).homes v (Some t) h)
 
--- one state function after another
-pub after_then : (cap : ℕ) (ws ws₁ ws₂ : List ℕ) (c d e : Counts) (s t : State) (m q a m' q' a' : ℕ) → After cap ws ws₁ c d s m q a → After cap ws₁ ws₂ d e t m' q' a'
-    → After cap ws ws₂ c e t m' q' a'
-after_then cap ws ws₁ ws₂ c d e s t m q a m' q' a' f g =
-    record {
-      is = g.is;
-      ready = g.ready;
-      records = g.records;
-      queued = g.queued;
-      active = g.active;
-      intervals = g.intervals ∙ f.intervals;
-      long = g.long ∙ f.long;
-    }
-
--- ---- sizes and rounding, case by case
-module _ (total l : ℕ) (m : total ≤ 32760) where
-  pub round_none : l ≡ 0 → Rounded total l total
-  round_none e = record { is = rw e (omega arith); most = m }
-
-  pub round_two : l ≡ 1 → Rounded total l ((total + 1) / 2 * 2)
-  round_two e = record { is = rw e (omega arith); most = omega arith }
-
-  pub round_four : l ≡ 2 → Rounded total l ((total + 3) / 4 * 4)
-  round_four e = record { is = rw e (omega arith); most = omega arith }
-
-  pub round_eight : l ≡ 3 → Rounded total l ((total + 7) / 8 * 8)
-  round_eight e = record { is = rw e (omega arith); most = omega arith }
-
-module _ (l : ℕ) where
-  pub size_one : l ≡ 0 → Size l 1
-  size_one e = record { is = rw e; most = omega arith }
-
-  pub size_two : l ≡ 1 → Size l 2
-  size_two e = record { is = rw e; most = omega arith }
-
-  pub size_four : l ≡ 2 → Size l 4
-  size_four e = record { is = rw e; most = omega arith }
-
-  pub size_eight : l ≡ 3 → Size l 8
-  size_eight e = record { is = rw e; most = omega arith }
+-- a size is a shifted bit
+pub size_shifted : (l : ℕ) → l < 4 → Size l (1 * 2 ^ l % 2 ^ 32)
+size_shifted zero h = record { is = omega arith; most = omega arith }
+size_shifted (suc zero) h = record { is = omega arith; most = omega arith }
+size_shifted (suc (suc zero)) h = record { is = omega arith; most = omega arith }
+size_shifted (suc (suc (suc zero))) h = record { is = omega arith; most = omega arith }
+size_shifted (suc (suc (suc (suc l)))) h = absurd (omega arith)
 
 -- ---- spills
 module _ (cap : ℕ) (ws : List ℕ) (c : Counts) (k v : ℕ) where
@@ -302,9 +269,6 @@ module _ (cap : ℕ) (ws : List ℕ) (c : Counts) (k v : ℕ) where
 
   -- a spill, by the home of record k's virtual register
   module _ (ws' : List ℕ) (d : Counts) (z m n a : ℕ) (h : Option ℕ) where
-    pub spilled_first : h ≡ None → After cap ws ws' c d (spill_to (state_of cap ws c) k z None) m n a → After cap ws ws' c d (spill_to (state_of cap ws c) k z h) m n a
-    spilled_first u b = rw u b
-
     pub spilled_again : (t : ℕ) → h ≡ Some t → After cap ws ws' c d (put (state_of cap ws c) k (Slot t)) m n a → After cap ws ws' c d (spill_to (state_of cap ws c) k z h) m n a
     unfolding spill_to
     spilled_again t u b = rw u b

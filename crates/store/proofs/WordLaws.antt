@@ -15,7 +15,7 @@ use Rattle.rules.specs.declared.Piece.{Piece}
 use Rattle.rules.specs.declared.Place.{Place}
 use Rattle.rules.specs.declared.Place.TheVariants.{Nowhere, Register, Slot}
 use Rattle.rules.specs.Call.{kind_of, number_of, record_for}
-use Rattle.store.specs.Cells.{place_of, piece_in, Packable, Unpacked, home_in, home_word, HomePacked}
+use Rattle.store.specs.Cells.{place_of, piece_in, Unpacked, home_in, home_word, HomePacked}
 
 -- a place by its kind
 module _ (kind number : ℕ) where
@@ -43,11 +43,6 @@ pub kind_small : (p : Place) → kind_of p < 4
 kind_small Nowhere = omega arith
 kind_small (Register r) = omega arith
 kind_small (Slot t) = omega arith
-
--- the record of a piece, from its kind and number
-pub record_made : (q : Piece) (a b : ℕ) → q.interval < 4096 → a ≡ kind_of q.place → b ≡ number_of q.place
-    → Packable q (record { kind = a; interval = q.interval; spare = 0; number = b; first = q.start; last = q.end })
-record_made q a b l e f = record { is = rw (e, f); kind = omega (arith, e, kind_small q.place); interval = l; spare = omega arith }
 
 -- a place is read back from its kind and number
 place_back : (p : Place) → place_of (kind_of p) (number_of p) ≡ p

@@ -27,15 +27,13 @@ fn whole_interval(intervals: &[u32], v: usize) -> Piece
         intervals[b + 2],
         intervals[b + 3],
     );
-    let mentions = i.mentions;
-    let safepoints = i.safepoints;
     Piece {
         interval: v as u16,
         place: Place::Nowhere,
         start: i.start,
         end: i.end,
-        mentions: mentions,
-        safepoints: safepoints,
+        mentions: i.mentions,
+        safepoints: i.safepoints,
     }
 }
 
@@ -44,13 +42,9 @@ fn fill(intervals: &[u32], work: &mut [u32], cap: usize)
     requires { Loads cap intervals.now work.old }
     ensures { Filled cap intervals.now work.old work.new (interval_count intervals.now) }
 {
-    let n = intervals.len() / INTERVAL_WORDS;
-    let mut k = 0;
-    while k < n {
-        let q = whole_interval(intervals, k);
-        cells::put_piece(work, cap, k, q);
+    for k in 0..intervals.len() / INTERVAL_WORDS {
+        cells::put_piece(work, cap, k, whole_interval(intervals, k));
         cells::put_home(work, cap, k, None);
-        k += 1;
     }
 }
 
@@ -68,10 +62,8 @@ pub fn load(intervals: &[u32], work: &mut [u32], cap: usize) -> Counts
         active: 0,
         total: 0,
     };
-    let mut k = 0;
-    while k < n {
+    for k in 0..n {
         counts = state::enqueue(work, cap, counts, k);
-        k += 1;
     }
     counts
 }
@@ -92,14 +84,11 @@ pub fn emit(work: &[u32], out: &mut [u32], cap: usize, counts: Counts)
     requires record_words_in_bounds { counts.records * record_words ≤ length out.old }
     ensures { out.new ≡ write_records (state_of cap work.now counts).pieces out.old }
 {
-    let n = counts.records;
-    let mut k = 0;
-    while k < n {
+    for k in 0..counts.records {
         let row = record_row(work, cap, counts, k);
         let b = k * RECORD_WORDS;
         out[b] = row[0];
         out[b + 1] = row[1];
-        k += 1;
     }
 }
 
@@ -108,10 +97,5 @@ pub fn zero(out: &mut [u32], cap: usize)
     requires { cap ≡ capacity out.old }
     ensures { out.new ≡ zero_records out.old }
 {
-    let m = cap * RECORD_WORDS;
-    let mut i = 0;
-    while i < m {
-        out[i] = 0;
-        i += 1;
-    }
+    out[..cap * RECORD_WORDS].fill(0);
 }

@@ -1,6 +1,5 @@
 // The words: the one place that knows how they lie. Of each record of capacity, 4 words hold a piece, 1 a key of the heap, 1 a home, 1 an active record.
 ghost use Rattle.std.specs.Prelude.{◌≡◌, ℕ, ◌+◌, ◌*◌, ◌<◌, ◌≤◌, get_or, set, None};
-ghost use Rattle.rules.specs.Call.{kind_of, number_of};
 ghost use Rattle.store.specs.Cells.{place_of, Packable, Unpacked, home_in, HomePacked, Cells, cells, with_pieces, with_homes, with_active, At, Becomes, PieceAt, HeapOpen, HeapFilled, KeyPushed, KeyPopped};
 
 use rules::{Piece, Place};
@@ -23,32 +22,10 @@ const SPILLED: u32 = 65536;
 fn place_of(kind: u16, number: u16) -> Place
     ensures { result ≡ place_of kind number }
 {
-    if kind == IN_REGISTER {
-        return Place::Register(number);
-    }
-    if kind == IN_SLOT {
-        return Place::Slot(number);
-    }
-    Place::Nowhere
-}
-
-fn kind_of(place: Place) -> u16
-    ensures { result ≡ kind_of place }
-{
-    match place {
-        Place::Nowhere => 0,
-        Place::Register(_) => IN_REGISTER,
-        Place::Slot(_) => IN_SLOT,
-    }
-}
-
-fn number_of(place: Place) -> u16
-    ensures { result ≡ number_of place }
-{
-    match place {
-        Place::Nowhere => 0,
-        Place::Register(n) => n,
-        Place::Slot(n) => n,
+    match kind {
+        IN_REGISTER => Place::Register(number),
+        IN_SLOT => Place::Slot(number),
+        _ => Place::Nowhere,
     }
 }
 
@@ -57,12 +34,16 @@ pub(crate) fn record_for(q: Piece) -> Record
     requires { q.interval < 4096 }
     ensures { Packable q result }
 {
-    let place = q.place;
+    let (kind, number) = match q.place {
+        Place::Nowhere => (0, 0),
+        Place::Register(r) => (IN_REGISTER, r),
+        Place::Slot(t) => (IN_SLOT, t),
+    };
     Record {
-        kind: kind_of(place),
+        kind,
         interval: q.interval,
         spare: 0,
-        number: number_of(place),
+        number,
         first: q.start,
         last: q.end,
     }
@@ -96,22 +77,21 @@ pub fn put_piece(work: &mut [u32], cap: usize, k: usize, q: Piece)
     ensures { Becomes cap work.old work.new (with_pieces (set (cells cap work.old).pieces k q) (cells cap work.old)) }
 {
     let row = write::record_row(record_for(q));
-    let mentions = q.mentions;
-    let safepoints = q.safepoints;
     let b = k * PIECE_WORDS;
     work[b] = row[0];
     work[b + 1] = row[1];
-    work[b + 2] = write::range_word(mentions);
-    work[b + 3] = write::range_word(safepoints);
+    work[b + 2] = write::range_word(q.mentions);
+    work[b + 3] = write::range_word(q.safepoints);
 }
 
 fn home_in(w: u32) -> Option<u16>
     ensures { result ≡ home_in w }
 {
     if w / SPILLED == 0 {
-        return None;
+        None
+    } else {
+        Some((w % SPILLED) as u16)
     }
-    Some((w % SPILLED) as u16)
 }
 
 fn home_word(home: Option<u16>) -> u32
@@ -137,17 +117,11 @@ pub fn put_home(work: &mut [u32], cap: usize, k: usize, home: Option<u16>)
     work[cap * HOMES + k] = home_word(home);
 }
 
-fn wide(w: u32) -> usize
-    ensures { result ≡ w }
-{
-    w as usize
-}
-
 pub fn active_at(work: &[u32], cap: usize, k: usize) -> usize
     requires { At cap work.now k }
     ensures { result ≡ get_or (cells cap work.now).active k 0 }
 {
-    wide(work[cap * ACTIVE + k])
+    work[cap * ACTIVE + k] as usize
 }
 
 pub fn put_active(work: &mut [u32], cap: usize, k: usize, j: usize)
@@ -158,19 +132,20 @@ pub fn put_active(work: &mut [u32], cap: usize, k: usize, j: usize)
     work[cap * ACTIVE + k] = j as u32;
 }
 
+// `put_piece`, `put_home` and `put_active` differ in how many words an entry takes and in how it is packed: one generic function would want a trait of
+// packings with its laws, which is longer than the three.
+
 // The heap's part of the area is lent to `queue`, with what lies behind it.
 pub fn push_key(work: &mut [u32], cap: usize, n: usize, key: u32)
     requires { HeapOpen cap work.old n }
     ensures { KeyPushed cap work.old work.new n key }
 {
-    let heap = cap * HEAP;
-    queue::push(&mut work[heap..], n, key);
+    queue::push(&mut work[cap * HEAP..], n, key);
 }
 
 pub fn pop_key(work: &mut [u32], cap: usize, n: usize) -> u32
     requires { HeapFilled cap work.old n }
     ensures { KeyPopped cap work.old work.new n result }
 {
-    let heap = cap * HEAP;
-    queue::pop(&mut work[heap..], n)
+    queue::pop(&mut work[cap * HEAP..], n)
 }

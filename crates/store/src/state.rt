@@ -41,16 +41,7 @@ pub fn set_piece(work: &mut [u32], cap: usize, counts: Counts, k: usize, q: Piec
 fn placed(q: Piece, place: Place) -> Piece
     ensures { PutInto place q result }
 {
-    let mentions = q.mentions;
-    let safepoints = q.safepoints;
-    Piece {
-        interval: q.interval,
-        place: place,
-        start: q.start,
-        end: q.end,
-        mentions: mentions,
-        safepoints: safepoints,
-    }
+    Piece { place, ..q }
 }
 
 // Record k is put into a place.
@@ -60,8 +51,7 @@ pub fn put_place(work: &mut [u32], cap: usize, counts: Counts, k: usize, place: 
     ensures { After cap work.old work.new counts counts (put (state_of cap work.old counts) k place) counts.records counts.queued counts.active }
 {
     let q = piece(work, cap, counts, k);
-    let p = placed(q, place);
-    set_piece(work, cap, counts, k, p);
+    set_piece(work, cap, counts, k, placed(q, place));
 }
 
 // A new record.
@@ -73,11 +63,8 @@ pub fn append(work: &mut [u32], cap: usize, counts: Counts, q: Piece) -> Counts
 {
     cells::put_piece(work, cap, counts.records, q);
     Counts {
-        intervals: counts.intervals,
         records: counts.records + 1,
-        queued: counts.queued,
-        active: counts.active,
-        total: counts.total,
+        ..counts
     }
 }
 
@@ -92,11 +79,8 @@ pub fn enqueue(work: &mut [u32], cap: usize, counts: Counts, k: usize) -> Counts
     let key = q.start as u32 * RECORDS + k as u32;
     cells::push_key(work, cap, counts.queued, key);
     Counts {
-        intervals: counts.intervals,
-        records: counts.records,
         queued: counts.queued + 1,
-        active: counts.active,
-        total: counts.total,
+        ..counts
     }
 }
 
@@ -108,11 +92,8 @@ pub fn pop(work: &mut [u32], cap: usize, counts: Counts) -> Popped
 {
     let key = cells::pop_key(work, cap, counts.queued);
     let left = Counts {
-        intervals: counts.intervals,
-        records: counts.records,
         queued: counts.queued - 1,
-        active: counts.active,
-        total: counts.total,
+        ..counts
     };
     Popped {
         record: (key % RECORDS) as usize,
@@ -129,11 +110,8 @@ pub fn push_active(work: &mut [u32], cap: usize, counts: Counts, k: usize) -> Co
 {
     cells::put_active(work, cap, counts.active, k);
     Counts {
-        intervals: counts.intervals,
-        records: counts.records,
-        queued: counts.queued,
         active: counts.active + 1,
-        total: counts.total,
+        ..counts
     }
 }
 
@@ -142,26 +120,16 @@ fn size_of(log: u16) -> u32
     requires { log < 4 }
     ensures { Size log result }
 {
-    match log {
-        0 => 1,
-        1 => 2,
-        2 => 4,
-        _ => 8,
-    }
+    1 << log
 }
 
-// The total rounded up to a multiple of the size. Each divisor is a constant, so that nothing is divided.
+// The total rounded up to a multiple of the size. Nothing is divided.
 fn round_up(total: u32, log: u16) -> u32
     requires total_bound { total ≤ 32760 }
     requires log_bound { log < 4 }
     ensures { Rounded total log result }
 {
-    match log {
-        0 => total,
-        1 => (total + 1) / 2 * 2,
-        2 => (total + 3) / 4 * 4,
-        _ => (total + 7) / 8 * 8,
-    }
+    (total + size_of(log) - 1) >> log << log
 }
 
 // Virtual register v is given its slot.
@@ -180,13 +148,7 @@ fn give_home(
     ensures { After cap work.old work.new counts result (with_homes (set (state_of cap work.old counts).homes v (Some slot)) total (state_of cap work.old counts)) counts.records counts.queued counts.active }
 {
     cells::put_home(work, cap, v, Some(slot));
-    Counts {
-        intervals: counts.intervals,
-        records: counts.records,
-        queued: counts.queued,
-        active: counts.active,
-        total: total,
-    }
+    Counts { total, ..counts }
 }
 
 // The first spill of virtual register v, record k's.
@@ -205,52 +167,6 @@ fn first_spill(work: &mut [u32], cap: usize, counts: Counts, k: usize, v: usize,
     given
 }
 
-// A virtual register and its home.
-#[derive(Clone, Copy)]
-struct Owner {
-    v: usize,
-    home: Option<u16>,
-}
-
-// Record k's virtual register.
-fn owner_of(work: &[u32], cap: usize, counts: Counts, k: usize) -> Owner
-    requires ready { Ready cap work.now counts }
-    requires k_lt_records { k < counts.records }
-    ensures { HomeOf cap work.now counts k result.v result.home }
-{
-    let q = piece(work, cap, counts, k);
-    let v = q.interval as usize;
-    Owner {
-        v: v,
-        home: cells::home_at(work, cap, v),
-    }
-}
-
-// Spill record k, whose virtual register v has this home.
-fn spill_by(
-    work: &mut [u32],
-    cap: usize,
-    counts: Counts,
-    k: usize,
-    v: usize,
-    home: Option<u16>,
-    log: u16,
-) -> Counts
-    requires ready { Ready cap work.old counts }
-    requires k_lt_records { k < counts.records }
-    requires log_bound { log < 4 }
-    requires home_of { HomeOf cap work.old counts k v home }
-    ensures { After cap work.old work.new counts result (spill_to (state_of cap work.old counts) k (2 ^ log) home) counts.records counts.queued counts.active }
-{
-    match home {
-        None => first_spill(work, cap, counts, k, v, log),
-        Some(slot) => {
-            put_place(work, cap, counts, k, Place::Slot(slot));
-            counts
-        }
-    }
-}
-
 // Spill record k: at its virtual register's first spill the next slot, later the same one.
 pub fn spill(work: &mut [u32], cap: usize, counts: Counts, k: usize, log: u16) -> Counts
     requires ready { Ready cap work.old counts }
@@ -258,8 +174,12 @@ pub fn spill(work: &mut [u32], cap: usize, counts: Counts, k: usize, log: u16) -
     requires log_bound { log < 4 }
     ensures { After cap work.old work.new counts result (spill_to (state_of cap work.old counts) k (2 ^ log) (get_or (state_of cap work.old counts).homes (piece_of (state_of cap work.old counts) k).interval None)) counts.records counts.queued counts.active }
 {
-    let owner = owner_of(work, cap, counts, k);
-    let v = owner.v;
-    let home = owner.home;
-    spill_by(work, cap, counts, k, v, home, log)
+    let v = piece(work, cap, counts, k).interval as usize;
+    match cells::home_at(work, cap, v) {
+        None => first_spill(work, cap, counts, k, v, log),
+        Some(slot) => {
+            put_place(work, cap, counts, k, Place::Slot(slot));
+            counts
+        }
+    }
 }

@@ -1,8 +1,9 @@
 -- Where points ascend, the next use is the first at or after p, and the last use the last at or before: the laws of two runs, one below the other.
 -- Assumes nothing.
 use Rattle.std.specs.Prelude.{Option, None, Some}
+use Rattle.std.specs.Option.{option_or, option_eq}
 use Prim.Native.Nat.{ℕ, ◌≤◌, ◌<◌}
-use mathlib.Core.Path.{◌≡◌, refl, sym, ◌∙◌}
+use mathlib.Core.Path.{◌≡◌, refl, sym, ◌∙◌, ap}
 use mathlib.Core.Bool.{Bool, true, false, ◌||◌}
 use mathlib.Core.List.{List, [], ◌∷◌, ◌++◌, Memᴰ, append_assoc}
 use native.Mathlib.Omega.{arith}
@@ -26,9 +27,6 @@ Has P None = Unit
 Has P (Some x) = P x
 
 -- the first answer, or the second where there is none
-abbrev pub or_else : Option ℕ → Option ℕ → Option ℕ
-or_else None s = s
-or_else (Some x) s = Some x
 
 pub each_append : (P : ℕ → Type 0) (xs ys : List ℕ) → Each P xs → Each P ys → Each P (xs ++ ys)
 each_append P [] ys a b = b
@@ -72,36 +70,36 @@ lower_below : (n x : ℕ) (s : Option ℕ) → x < n → Has (λ y. n ≤ y) s �
 lower_below n x None h k = refl
 lower_below n x (Some y) h k = simp (le-leb x y (omega arith))
 
-greater_above : (n x : ℕ) (s t : Option ℕ) → x < n → Has (λ y. n ≤ y) s → greater x (or_else s t) ≡ or_else s (greater x t)
+greater_above : (n x : ℕ) (s t : Option ℕ) → x < n → Has (λ y. n ≤ y) s → greater x (option_or s t) ≡ option_or s (greater x t)
 greater_above n x None t h k = refl
 greater_above n x (Some y) t h k = simp (lt-leb y x (omega arith))
 
-or_choose : (b : Bool) (x y : ℕ) (s : Option ℕ) → choose b (Some x) (Some y) ≡ or_else (choose b (Some x) (Some y)) s
+or_choose : (b : Bool) (x y : ℕ) (s : Option ℕ) → choose b (Some x) (Some y) ≡ option_or (choose b (Some x) (Some y)) s
 or_choose true x y s = refl
 or_choose false x y s = refl
 
 -- of two runs, one below the other, the next use is the first's if it has one
-pub next_append : (n p : ℕ) (xs ys : List ℕ) → Each (λ x. x < n) xs → Each (λ y. n ≤ y) ys → next_use p (xs ++ ys) ≡ or_else (next_use p xs) (next_use p ys)
+pub next_append : (n p : ℕ) (xs ys : List ℕ) → Each (λ x. x < n) xs → Each (λ y. n ≤ y) ys → next_use p (xs ++ ys) ≡ option_or (next_use p xs) (next_use p ys)
 unfolding next_use
 next_append n p [] ys u o = refl
 next_append n p (x ∷ xs) ys u o = go (leb p x) (next_use p xs) (next_append n p xs ys u.1 o)
   where
-    go : (b : Bool) (s : Option ℕ) → next_use p (xs ++ ys) ≡ or_else s (next_use p ys) → choose b (lower x (next_use p (xs ++ ys))) (next_use p (xs ++ ys)) ≡ or_else (choose b (lower x s) s) (next_use p ys)
+    go : (b : Bool) (s : Option ℕ) → next_use p (xs ++ ys) ≡ option_or s (next_use p ys) → choose b (lower x (next_use p (xs ++ ys))) (next_use p (xs ++ ys)) ≡ option_or (choose b (lower x s) s) (next_use p ys)
     go false s e = e
     go true None e = rw e (lower_below n x (next_use p ys) u.0 (next_has (λ y. n ≤ y) p ys o))
     go true (Some z) e = rw e (or_choose (leb x z) x z (next_use p ys))
 
 -- and the last use is the second's if it has one
-pub last_append : (n p : ℕ) (xs ys : List ℕ) → Each (λ x. x < n) xs → Each (λ y. n ≤ y) ys → last_use p (xs ++ ys) ≡ or_else (last_use p ys) (last_use p xs)
+pub last_append : (n p : ℕ) (xs ys : List ℕ) → Each (λ x. x < n) xs → Each (λ y. n ≤ y) ys → last_use p (xs ++ ys) ≡ option_or (last_use p ys) (last_use p xs)
 unfolding last_use
 last_append n p [] ys u o = or_nothing (last_use p ys)
   where
-    or_nothing : (s : Option ℕ) → s ≡ or_else s None
+    or_nothing : (s : Option ℕ) → s ≡ option_or s None
     or_nothing None = refl
     or_nothing (Some x) = refl
 last_append n p (x ∷ xs) ys u o = go (leb x p) (last_append n p xs ys u.1 o)
   where
-    go : (b : Bool) → last_use p (xs ++ ys) ≡ or_else (last_use p ys) (last_use p xs) → choose b (greater x (last_use p (xs ++ ys))) (last_use p (xs ++ ys)) ≡ or_else (last_use p ys) (choose b (greater x (last_use p xs)) (last_use p xs))
+    go : (b : Bool) → last_use p (xs ++ ys) ≡ option_or (last_use p ys) (last_use p xs) → choose b (greater x (last_use p (xs ++ ys))) (last_use p (xs ++ ys)) ≡ option_or (last_use p ys) (choose b (greater x (last_use p xs)) (last_use p xs))
     go false e = e
     go true e = rw e (greater_above n x (last_use p ys) (last_use p xs) u.0 (last_has (λ y. n ≤ y) p ys o))
 
@@ -146,11 +144,12 @@ unfolding is_point next_use
 point_next p [] = refl
 point_next p (x ∷ xs) = point_step p x (is_point p xs) (next_use p xs) (next_from p xs) (point_next p xs)
 
-pub point_none : (p : ℕ) (xs : List ℕ) (u : Option ℕ) → u ≡ next_use p xs → u ≡ None → false ≡ is_point p xs
-point_none p xs u e f = sym (point_next p xs ∙ rw (sym e ∙ f))
-
-pub point_at : (p x : ℕ) (xs : List ℕ) (u : Option ℕ) → u ≡ next_use p xs → u ≡ Some x → eqb x p ≡ is_point p xs
-point_at p x xs u e f = sym (point_next p xs ∙ rw (sym e ∙ f))
+pub point_equal : (p : ℕ) (xs : List ℕ) (u : Option ℕ) (r : Bool) → u ≡ next_use p xs → r ≡ option_eq eqb u (Some p) → r ≡ is_point p xs
+point_equal p xs u r e f = f ∙ ap (λ s. option_eq eqb s (Some p)) e ∙ same (next_use p xs) ∙ sym (point_next p xs)
+  where
+    same : (s : Option ℕ) → option_eq eqb s (Some p) ≡ is_at p s
+    same None = refl
+    same (Some x) = refl
 
 -- no point is below p: all are at or after it
 pub none_below : (p : ℕ) (xs : List ℕ) → Each (λ x. p ≤ x) xs → any_below p xs ≡ false

@@ -7,8 +7,6 @@ use mathlib.Core.List.{List, [], ◌∷◌, tail}
 use native.Mathlib.Omega.{arith}
 use lib.ListN.{get_or}
 use lib.Seq.{drop-cons}
-use mir.Val.{Fits}
-use mir.Syntax.{w16}
 use Rattle.words.specs.declared.Range.{Range}
 use Rattle.words.specs.Packed.{part}
 use Rattle.uses.specs.Runs.{Ascending}
@@ -22,10 +20,6 @@ pub first_is : (r : Range) (l : List ℕ) → Ascending r l → (r.count ≡ 0 �
 first_is r l up h =
     let e : r.count ≡ suc (r.count - 1) = omega arith in
     rw (drop-cons l r.index 0 (omega arith), e)
-
--- and that entry is an instruction
-pub first_fits : (r : Range) (l : List ℕ) → Ascending r l → (r.count ≡ 0 → ⊥) → Fits w16 (get_or l r.index 0)
-first_fits r l up h = omega (arith, up.below r.index (omega arith, omega arith))
 
 -- what a head says of its list
 pub head_missing : (l : List ℕ) → head_of l ≡ None → l ≡ []

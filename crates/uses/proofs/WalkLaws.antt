@@ -1,6 +1,8 @@
 -- What a walk over a run has found after n entries: each turn of the walks, and their ends.
 -- Assumes nothing.
 use Rattle.std.specs.Prelude.{Option, None, Some}
+use Rattle.std.specs.Option.{option_or}
+use Rattle.std.specs.List.Sorted.{IsPartitionedBy, IsPartitionPoint}
 use Prim.Native.Nat.{ℕ, zero, suc, ◌+◌, ◌-◌, ◌≤◌, ◌<◌}
 use mathlib.Core.Path.{◌≡◌, refl, sym, ap, ◌∙◌}
 use mathlib.Core.Bool.{Bool, true, false}
@@ -10,7 +12,9 @@ use native.Mathlib.Nat.{add-zero, eq-or-lt_of_le}
 use mathlib.Core.Logic.{⊎_elim}
 use native.Mathlib.Numerals.{add-one}
 use lib.ListN.{length, get_or, take, drop, length-take, length-drop}
-use lib.Seq.{drop-cons, take-suc, get_or-take, get_or-drop}
+use lib.Seq.{drop-cons, take-suc, get_or-take, get_or-drop, length-take-le}
+use Rattle.std.proofs.lemmas.List.{get_or_default}
+use native.Mathlib.Decide.{dec_lt}
 use borrow.Author.Tests.{ltb-false, le-ltb}
 use Rattle.words.specs.declared.Range.{Range}
 use Rattle.words.specs.Points.{use_point}
@@ -21,7 +25,7 @@ use Rattle.rules.specs.Split.{count_of}
 use Rattle.uses.specs.Runs.{mention_at, Rising, Ascending, Kept}
 use Rattle.uses.specs.Mentions.{stays_below}
 use Rattle.uses.specs.Safepoints.{use_below}
-use Rattle.uses.proofs.PointLaws.{Each, each_map, each_mem, each_points, points_at, points_append, or_else, next_append, last_append, none_below, not_below}
+use Rattle.uses.proofs.PointLaws.{Each, each_map, each_mem, each_points, points_at, points_append, next_append, last_append, none_below, not_below}
 
 -- the run of count entries from an index on
 abbrev pub run : ℕ → ℕ → Range
@@ -93,11 +97,11 @@ module _ (r : Range) (l : List ℕ) (up : Rising r l) (n : ℕ) (h : n < r.count
   there : Each (λ x. use_point (mention_at l (r.index + n)).instruction ≤ x) (points_in (mention_at l (r.index + n)))
   there = each_map _ _ (λ x q. omega arith) (points_in (mention_at l (r.index + n))) (points_at (mention_at l (r.index + n)))
 
-  next_more : (p : ℕ) → next_use p (mention_points (rest r n l)) ≡ or_else (next_use p (points_in (mention_at l (r.index + n)))) (next_use p (mention_points (rest r (n + 1) l)))
+  next_more : (p : ℕ) → next_use p (mention_points (rest r n l)) ≡ option_or (next_use p (points_in (mention_at l (r.index + n)))) (next_use p (mention_points (rest r (n + 1) l)))
   unfolding mention_points
   next_more p = rw (rest_more r l n up.inside h) (next_append _ p (points_in (mention_at l (r.index + n))) (mention_points (rest r (n + 1) l)) here after)
 
-  last_more : (p : ℕ) → last_use p (mention_points (front r (n + 1) l)) ≡ or_else (last_use p (points_in (mention_at l (r.index + n)))) (last_use p (mention_points (front r n l)))
+  last_more : (p : ℕ) → last_use p (mention_points (front r (n + 1) l)) ≡ option_or (last_use p (points_in (mention_at l (r.index + n)))) (last_use p (mention_points (front r n l)))
   last_more p =
       let one : mention_points (get_or l (r.index + n) 0 ∷ []) ≡ points_in (mention_at l (r.index + n)) = single (get_or l (r.index + n) 0) in
       rw (front_more r l n up.inside h, points_append (front r n l) (get_or l (r.index + n) 0 ∷ []), one) (last_append _ p (mention_points (front r n l)) (points_in (mention_at l (r.index + n))) before there)
@@ -146,7 +150,7 @@ module _ (r : Range) (l : List ℕ) (p : ℕ) where
   pub trailing_starts : Rising r l → Trailing r l p r.count
   trailing_starts up = record { rising = up; upto = omega arith; is = refl }
 
-  last_step : (n : ℕ) → Trailing r l p n → 0 < n → last_use p (mention_points (part r l)) ≡ or_else (last_use p (points_in (mention_at l (r.index + (n - 1))))) (last_use p (mention_points (front r (n - 1) l)))
+  last_step : (n : ℕ) → Trailing r l p n → 0 < n → last_use p (mention_points (part r l)) ≡ option_or (last_use p (points_in (mention_at l (r.index + (n - 1))))) (last_use p (mention_points (front r (n - 1) l)))
   last_step n s h =
       let e : n ≡ n - 1 + 1 = omega arith in
       s.is ∙ ap (λ (k : ℕ). last_use p (mention_points (front r k l))) e ∙ last_more r l s.rising (n - 1) (omega arith) p
@@ -225,6 +229,50 @@ module _ (f : ℕ → Bool) (r : Range) (l : List ℕ) where
   pub count_first : (n : ℕ) → r.index + r.count ≤ length l → Falls f r l → n < r.count → ((k : ℕ) → k < n → f (get_or l (r.index + k) 0) ≡ true)
       → f (get_or l (r.index + n) 0) ≡ false → count_of f (part r l) ≡ n
   count_first n i d h g e = sym (counting_stops n false (counts n i d (omega arith) g) h (sym e) refl).is
+
+  -- a test that falls is true before one place of the run, and false from there on
+  abbrev words : List ℕ
+  words = take (r.index + r.count - r.index) (drop r.index l)
+
+  module _ (i : r.index + r.count ≤ length l) where
+    words_long : length words ≡ r.count
+    words_long = length-take-le _ (drop r.index l) (omega (arith, length-drop r.index l)) ∙ omega arith
+
+    words_at : (n d : ℕ) → n < r.count → get_or words n d ≡ get_or l (r.index + n) 0
+    words_at n d h = get_or_default words n d 0 (omega (arith, words_long)) ∙ get_or-take _ (drop r.index l) n 0 (omega arith) ∙ get_or-drop r.index l n 0
+
+  pub falls_parted : r.index + r.count ≤ length l → Falls f r l → IsPartitionedBy f words
+  falls_parted i g j k d u v e = go (f (get_or words j d)) refl
+    where
+      below : k < r.count
+      below = rw (words_long i) at v
+
+      go : (b : Bool) → f (get_or words j d) ≡ b → f (get_or words j d) ≡ true
+      go true h = h
+      go false h =
+          ⊎_elim (λ (q : j ≡ k). rw q e)
+          (λ (q : j < k).
+          let no : f (get_or words k d) ≡ false = rw (words_at i k d below) (g (r.index + j) (r.index + k) (omega arith, omega (arith, below)) (omega arith, omega (arith, below)) (omega arith) (rw (words_at i j d (omega (arith, below))) at h)) in
+          cc)
+          (eq-or-lt_of_le u)
+
+  -- and that place is how many entries pass
+  pub parted_kept : (n : ℕ) → r.index + r.count ≤ length l → Falls f r l → n ≤ length words → IsPartitionPoint (λ w. f w ≡ true) (λ w. f w ≡ false) words n → Kept f r l n
+  parted_kept n i g h p = go (dec_lt n r.count)
+    where
+      most : n ≤ r.count
+      most = rw (words_long i) at h
+
+      passed : (k : ℕ) → k < n → f (get_or l (r.index + k) 0) ≡ true
+      passed k u = rw (← words_at i k 0 (omega (arith, most))) (p.0 k 0 (omega arith) u)
+
+      go : Dec (n < r.count) → Kept f r l n
+      go (yes u) =
+          record {
+            is = sym (count_first n i g u passed (rw (← words_at i n 0 u) (p.1 n 0 (omega arith) (omega (arith, words_long i)))));
+            most = most;
+          }
+      go (no u) = counting_ends n (counts n i g most passed) (omega arith)
 
 -- the tests of a split fall
 pub mentions_fall : (p : ℕ) (r : Range) (l : List ℕ) → Rising r l → Falls (stays_below p) r l

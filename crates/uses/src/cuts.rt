@@ -11,10 +11,7 @@ use words::Range;
 fn first_of(n: u16, r: Range) -> Range
     ensures { result ≡ first_of n r }
 {
-    Range {
-        index: r.index,
-        count: n,
-    }
+    Range { count: n, ..r }
 }
 
 fn rest_of(n: u16, r: Range) -> Range
@@ -27,30 +24,16 @@ fn rest_of(n: u16, r: Range) -> Range
     }
 }
 
-// The point before p. On accepted tables no split is at point 0, which has none before it; the definitions give 0 there.
-fn before(p: u16) -> u16
-    ensures { result ≡ p - 1 }
-{
-    if p == 0 {
-        return 0;
-    }
-    p - 1
-}
-
-// The parent, of which m mentions and s safepoints stay.
+// The parent, of which m mentions and s safepoints stay. On accepted tables no split is at point 0, which has none before it; the definitions end the
+// parent at 0 there.
 fn parent_of(q: Piece, p: u16, m: u16, s: u16) -> Piece
     ensures { result ≡ parent_by q p m s }
 {
-    let own = q.mentions;
-    let passed = q.safepoints;
-    let place = q.place;
     Piece {
-        interval: q.interval,
-        place: place,
-        start: q.start,
-        end: before(p),
-        mentions: first_of(m, own),
-        safepoints: first_of(s, passed),
+        end: p.saturating_sub(1),
+        mentions: first_of(m, q.mentions),
+        safepoints: first_of(s, q.safepoints),
+        ..q
     }
 }
 
@@ -60,15 +43,12 @@ fn child_of(q: Piece, p: u16, m: u16, s: u16) -> Piece
     requires safepoints { Room s q.safepoints }
     ensures { result ≡ child_by q p m s }
 {
-    let own = q.mentions;
-    let passed = q.safepoints;
     Piece {
-        interval: q.interval,
         place: Place::Nowhere,
         start: p,
-        end: q.end,
-        mentions: rest_of(m, own),
-        safepoints: rest_of(s, passed),
+        mentions: rest_of(m, q.mentions),
+        safepoints: rest_of(s, q.safepoints),
+        ..q
     }
 }
 
@@ -77,10 +57,8 @@ pub fn cut(mentions: &[u32], safepoints: &[u32], q: Piece, p: u16) -> Halves
     requires { Orderly q mentions.now safepoints.now }
     ensures { Cut mentions.now safepoints.now q p result }
 {
-    let own = q.mentions;
-    let passed = q.safepoints;
-    let m = mentions::staying_mentions(mentions, own, p);
-    let s = safepoints::staying_safepoints(safepoints, passed, p);
+    let m = mentions::staying_mentions(mentions, q.mentions, p);
+    let s = safepoints::staying_safepoints(safepoints, q.safepoints, p);
     Halves {
         parent: parent_of(q, p, m, s),
         child: child_of(q, p, m, s),

@@ -12,10 +12,7 @@ fn at_use(w: u32) -> bool
     ensures { result ≡ at_use (mention_in w) }
 {
     let m = read::mention_in(w);
-    if m.uses {
-        return true;
-    }
-    m.mods
+    m.uses || m.mods
 }
 
 // a mod or def the Def point.
@@ -23,43 +20,29 @@ fn at_def(w: u32) -> bool
     ensures { result ≡ at_def (mention_in w) }
 {
     let m = read::mention_in(w);
-    if m.mods {
-        return true;
-    }
-    m.defs
+    m.mods || m.defs
 }
 
 fn instruction_in(w: u32) -> u16
     ensures { Numbered w result }
 {
-    let m = read::mention_in(w);
-    m.instruction
+    read::mention_in(w).instruction
 }
 
 // A point that is there, if at or after p.
+#[tactic(auto, unfolding(rules::specs::Uses::next_use))]
 fn point_from(there: bool, x: u16, p: u16) -> Option<u16>
     ensures { result ≡ next_use p (dot there x) }
 {
-    if x < p {
-        return None;
-    }
-    if there {
-        return Some(x);
-    }
-    None
+    (there && p <= x).then_some(x)
 }
 
 // A point that is there, if at or before p.
+#[tactic(auto, unfolding(rules::specs::Uses::last_use))]
 fn point_until(there: bool, x: u16, p: u16) -> Option<u16>
     ensures { result ≡ last_use p (dot there x) }
 {
-    if p < x {
-        return None;
-    }
-    if there {
-        return Some(x);
-    }
-    None
+    (there && x <= p).then_some(x)
 }
 
 // The first point of a mention at or after p: the Use point, else the Def point.
@@ -67,13 +50,11 @@ fn next_in(w: u32, p: u16) -> Option<u16>
     ensures { result ≡ next_use p (points_in (mention_in w)) }
 {
     let i = instruction_in(w);
-    let use_at = points::use_point(i);
-    let def_at = points::def_point(i);
-    let first = point_from(at_use(w), use_at, p);
-    let Some(x) = first else {
-        return point_from(at_def(w), def_at, p);
-    };
-    Some(x)
+    point_from(at_use(w), points::use_point(i), p).or(point_from(
+        at_def(w),
+        points::def_point(i),
+        p,
+    ))
 }
 
 // The last point of a mention at or before p: the Def point, else the Use point.
@@ -81,13 +62,11 @@ fn last_in(w: u32, p: u16) -> Option<u16>
     ensures { result ≡ last_use p (points_in (mention_in w)) }
 {
     let i = instruction_in(w);
-    let use_at = points::use_point(i);
-    let def_at = points::def_point(i);
-    let last = point_until(at_def(w), def_at, p);
-    let Some(x) = last else {
-        return point_until(at_use(w), use_at, p);
-    };
-    Some(x)
+    point_until(at_def(w), points::def_point(i), p).or(point_until(
+        at_use(w),
+        points::use_point(i),
+        p,
+    ))
 }
 
 // A mention stays at a split at p: a point of it is below p.
@@ -95,15 +74,11 @@ fn stays(w: u32, p: u16) -> bool
     ensures { result ≡ stays_below p w }
 {
     let i = instruction_in(w);
-    let use_at = points::use_point(i);
-    let def_at = points::def_point(i);
     if at_use(w) {
-        return use_at < p;
+        points::use_point(i) < p
+    } else {
+        at_def(w) && points::def_point(i) < p
     }
-    if at_def(w) {
-        return def_at < p;
-    }
-    false
 }
 
 // The least mention point of a run at or after p.
@@ -112,14 +87,10 @@ pub fn next_use(mentions: &[u32], range: Range, p: u16) -> Option<u16>
     ensures { result ≡ next_use p (mention_points (part range mentions.now)) }
 {
     let from = range.index as usize;
-    let count = range.count as usize;
-    let mut n = 0;
-    while n < count {
-        let u = next_in(mentions[from + n], p);
-        if let Some(x) = u {
+    for n in 0..range.count as usize {
+        if let Some(x) = next_in(mentions[from + n], p) {
             return Some(x);
         }
-        n += 1;
     }
     None
 }
@@ -130,12 +101,8 @@ pub fn last_use(mentions: &[u32], range: Range, p: u16) -> Option<u16>
     ensures { result ≡ last_use p (mention_points (part range mentions.now)) }
 {
     let from = range.index as usize;
-    let count = range.count as usize;
-    let mut n = count;
-    while 0 < n {
-        n -= 1;
-        let u = last_in(mentions[from + n], p);
-        if let Some(x) = u {
+    for n in (0..range.count as usize).rev() {
+        if let Some(x) = last_in(mentions[from + n], p) {
             return Some(x);
         }
     }
@@ -147,10 +114,7 @@ pub fn is_mention_point(mentions: &[u32], range: Range, p: u16) -> bool
     requires { Rising range mentions.now }
     ensures { result ≡ is_point p (mention_points (part range mentions.now)) }
 {
-    let Some(x) = next_use(mentions, range, p) else {
-        return false;
-    };
-    x == p
+    next_use(mentions, range, p) == Some(p)
 }
 
 // How many mentions of a run stay at a split at p.
@@ -159,14 +123,5 @@ pub fn staying_mentions(mentions: &[u32], range: Range, p: u16) -> u16
     ensures { Kept (stays_below p) range mentions.now result }
 {
     let from = range.index as usize;
-    let count = range.count as usize;
-    let mut n = 0;
-    while n < count {
-        if stays(mentions[from + n], p) {
-            n += 1;
-        } else {
-            return n as u16;
-        }
-    }
-    n as u16
+    mentions[from..from + range.count as usize].partition_point(|w| stays(*w, p)) as u16
 }

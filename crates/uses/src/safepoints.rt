@@ -1,4 +1,4 @@
-// A piece's safepoints: how many stay at a split, and the first. They ascend, so the walk stops at the first that answers.
+// A piece's safepoints: how many stay at a split, and the first. They ascend, so how many stay is found by halving.
 ghost use Rattle.std.specs.Prelude.{◌≡◌};
 ghost use Rattle.words.specs.Packed.{part};
 ghost use Rattle.uses.specs.Runs.{Ascending, Kept};
@@ -19,16 +19,7 @@ pub fn staying_safepoints(safepoints: &[u32], range: Range, p: u16) -> u16
     ensures { Kept (use_below p) range safepoints.now result }
 {
     let from = range.index as usize;
-    let count = range.count as usize;
-    let mut n = 0;
-    while n < count {
-        if use_below(safepoints[from + n], p) {
-            n += 1;
-        } else {
-            return n as u16;
-        }
-    }
-    n as u16
+    safepoints[from..from + range.count as usize].partition_point(|s| use_below(*s, p)) as u16
 }
 
 // The first safepoint of a run.
@@ -39,6 +30,5 @@ pub fn first_safepoint(safepoints: &[u32], range: Range) -> Option<u16>
     if range.count == 0 {
         return None;
     }
-    let from = range.index as usize;
-    Some(safepoints[from] as u16)
+    Some(safepoints[range.index as usize] as u16)
 }

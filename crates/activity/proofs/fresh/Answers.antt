@@ -1,10 +1,6 @@
 -- `activity::fresh` meets its contract: each turn sets the cursor of one register more.
--- Assumes nothing.
-use Rattle.activity.proofs.UpdateLaws.{setting_starts, setting_more, setting_ends}
+use Rattle.activity.proofs.UpdateLaws.{setting_more, setting_ends}
 use Rattle.activity.proofs.fresh.Goals as goal
-
-pub loop-r-init : goal.loop-r-init
-loop-r-init c = search setting_starts
 
 pub loop-r-preserved : goal.loop-r-preserved
 loop-r-preserved c = search setting_more

@@ -1,5 +1,4 @@
 -- `activity::bits::has_bit` meets its contract.
--- Assumes nothing.
 use Rattle.activity.proofs.BitLaws.{bit_test}
 use Rattle.activity.proofs.bits.has_bit.Goals as goal
 

@@ -1,5 +1,4 @@
 -- `activity::bits::with_bit` meets its contract.
--- Assumes nothing.
 use Rattle.activity.proofs.BitLaws.{bit_set}
 use Rattle.activity.proofs.bits.with_bit.Goals as goal
 

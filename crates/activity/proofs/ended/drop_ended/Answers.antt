@@ -1,5 +1,4 @@
 -- `activity::ended::drop_ended` meets its contract: after each turn the first `kept` active records are those of the first `i` that stay, and from `i` on nothing has changed.
--- Assumes nothing.
 use Rattle.activity.proofs.EndedLaws.{dropping_starts, dropping_movable, dropping_more, dropping_ends}
 use Rattle.activity.proofs.ended.drop_ended.Goals as goal
 

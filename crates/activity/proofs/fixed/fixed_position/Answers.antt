@@ -1,5 +1,4 @@
 -- `activity::fixed::fixed_position` meets its contract: the fragment at the cursor is the first that does not end before the start, so it alone decides.
--- Assumes nothing.
 use Rattle.activity.proofs.FixedLaws.{says_none, says_blocked, says_at, says_never}
 use Rattle.activity.proofs.fixed.fixed_position.Goals as goal
 

@@ -1,4 +1,4 @@
--- `store::area::load` meets its contract. The invariant: the state is the one where the first k of the records are queued. The measure is what is left. Assumes nothing.
+-- `store::area::load` meets its contract. The invariant: the state is the one where the first k of the records are queued.
 use Rattle.store.proofs.AreaLaws.{queueing_starts, queueing_more, queueing_ends}
 use Rattle.store.proofs.area.load.Goals as goal
 

@@ -1,4 +1,4 @@
--- `store::cells::home_word` meets its contract: each arm is a case of `home_word`. Assumes nothing.
+-- `store::cells::home_word` meets its contract: each arm is a case of `home_word`.
 use Rattle.store.proofs.WordLaws.{word_none, word_some}
 use Rattle.store.proofs.cells.home_word.Goals as goal
 

@@ -1,4 +1,4 @@
--- `store::cells::pop_key` meets its contract: the words from the heap on are lent, and come back changed within the heap only (`key_popped`). Assumes nothing.
+-- `store::cells::pop_key` meets its contract: the words from the heap on are lent, and come back changed within the heap only (`key_popped`).
 use Rattle.store.proofs.CellLaws.{filled, key_popped}
 use Rattle.store.proofs.cells.pop_key.Goals as goal
 

@@ -1,4 +1,4 @@
--- `store::cells::put_active` meets its contract: no other list has this word (`active_put`). Assumes nothing.
+-- `store::cells::put_active` meets its contract: no other list has this word (`active_put`).
 use Rattle.store.proofs.CellLaws.{active_put}
 use Rattle.store.proofs.cells.put_active.Goals as goal
 

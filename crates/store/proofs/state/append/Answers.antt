@@ -1,4 +1,4 @@
--- `store::state::append` meets its contract: a store just past the records in use is an append (`piece_appended`). Assumes nothing.
+-- `store::state::append` meets its contract: a store just past the records in use is an append (`piece_appended`).
 use Rattle.store.proofs.StateLaws.{piece_appended}
 use Rattle.store.proofs.state.append.Goals as goal
 

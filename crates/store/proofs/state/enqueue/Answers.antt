@@ -1,4 +1,4 @@
--- `store::state::enqueue` meets its contract: the key of record k is pushed on the heap (`record_queued`). Assumes nothing.
+-- `store::state::enqueue` meets its contract: the key of record k is pushed on the heap (`record_queued`).
 use Rattle.store.proofs.StateLaws.{record_queued}
 use Rattle.store.proofs.state.enqueue.Goals as goal
 

@@ -1,4 +1,4 @@
--- `store::state::piece` meets its contract: record k is entry k of the pieces in use, and a sane state has its interval (`got`). Assumes nothing.
+-- `store::state::piece` meets its contract: record k is entry k of the pieces in use, and a sane state has its interval (`got`).
 use Rattle.store.proofs.StateLaws.{got}
 use Rattle.store.proofs.state.piece.Goals as goal
 

@@ -1,4 +1,4 @@
--- `store::state::push_active` meets its contract: a store just past the active records in use is an append (`active_pushed`). Assumes nothing.
+-- `store::state::push_active` meets its contract: a store just past the active records in use is an append (`active_pushed`).
 use Rattle.store.proofs.StateLaws.{active_pushed}
 use Rattle.store.proofs.state.push_active.Goals as goal
 

@@ -1,4 +1,4 @@
--- `store::state::set_piece` meets its contract: a store below the records in use is one in the list of pieces (`piece_set`). Assumes nothing.
+-- `store::state::set_piece` meets its contract: a store below the records in use is one in the list of pieces (`piece_set`).
 use Rattle.store.proofs.StateLaws.{piece_set}
 use Rattle.store.proofs.state.set_piece.Goals as goal
 

@@ -1,10 +1,6 @@
 -- `uses::mentions::last_use` meets its contract: on a rising run the last mention with a point at or before p has the greatest of them.
--- Assumes nothing.
-use Rattle.uses.proofs.WalkLaws.{trailing_starts, trailing_more, trailing_found, trailing_ends}
+use Rattle.uses.proofs.WalkLaws.{trailing_more, trailing_found, trailing_ends}
 use Rattle.uses.proofs.mentions.last_use.Goals as goal
-
-pub loop-n-init : goal.loop-n-init
-loop-n-init c = search trailing_starts
 
 pub returns-in-Some : goal.returns-in-Some
 returns-in-Some c = search trailing_found

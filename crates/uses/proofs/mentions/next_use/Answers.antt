@@ -1,10 +1,6 @@
 -- `uses::mentions::next_use` meets its contract: on a rising run the first mention with a point at or after p has the least of them.
--- Assumes nothing.
-use Rattle.uses.proofs.WalkLaws.{seeking_starts, seeking_more, seeking_found, seeking_ends}
+use Rattle.uses.proofs.WalkLaws.{seeking_more, seeking_found, seeking_ends}
 use Rattle.uses.proofs.mentions.next_use.Goals as goal
-
-pub loop-n-init : goal.loop-n-init
-loop-n-init c = search seeking_starts
 
 pub returns-in-Some : goal.returns-in-Some
 returns-in-Some c = search seeking_found

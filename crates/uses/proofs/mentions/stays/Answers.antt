@@ -1,5 +1,4 @@
 -- `uses::mentions::stays` meets its contract: the first point of a mention decides.
--- Assumes nothing.
 use Rattle.uses.proofs.MentionLaws.{stays_use, stays_def, stays_none}
 use Rattle.uses.proofs.mentions.stays.Goals as goal
 
@@ -9,5 +8,5 @@ returns-then-at_use c = search stays_use
 pub returns-then-at_def : goal.returns-then-at_def
 returns-then-at_def c = search stays_def
 
-pub returns : goal.returns
-returns c = search stays_none
+pub returns-else-at_def : goal.returns-else-at_def
+returns-else-at_def c = search stays_none

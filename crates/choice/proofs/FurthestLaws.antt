@@ -1,4 +1,5 @@
 -- The furthest register of a row. Assumes nothing.
+use Rattle.std.specs.Prelude.{min}
 use Prim.Native.Nat.{ℕ, zero, suc, ◌+◌, ◌-◌, ◌≤◌, ◌<◌}
 use mathlib.Core.Path.{◌≡◌, refl, sym, ◌∙◌}
 use mathlib.Core.Bool.{Bool, true, false}
@@ -6,16 +7,16 @@ use mathlib.Core.List.{List}
 use native.Mathlib.Omega.{arith}
 use native.Mathlib.Numerals.{add-one}
 use native.Mathlib.Decide.{dec_le, ℕ_discrete}
-use borrow.Author.Tests.{le-ltb, lt-ltb, eq-eqb, ne_eqb}
+use borrow.Author.Tests.{le-ltb, eq-eqb, ne_eqb}
 use Rattle.words.specs.Choose.{choose}
 use Rattle.words.proofs.Fold.{one_less, none_left}
 use Rattle.rules.specs.declared.Pos.{Pos}
 use Rattle.rules.specs.declared.Pos.TheVariants.{Blocked, At, Never}
 use Rattle.rules.specs.Steps.{Choice}
-use Rattle.std.specs.Prelude.{None, Some}
+use Rattle.std.specs.Prelude.{None}
 use Rattle.rules.specs.Positions.{below}
 use Rattle.rules.specs.Steps.{offer, furthest, pos_of}
-use Rattle.choice.specs.Row.{pos_in, better, nearer_of, is_never}
+use Rattle.choice.specs.Row.{pos_in, better, is_never}
 
 -- positions that agree on the registers other than scratch have the same furthest
 pub furthest_agrees : (pos pos' : ℕ → Pos) (scratch n r : ℕ) (best : Choice)
@@ -58,14 +59,6 @@ furthest_never pos scratch (suc n) r best h = go (ℕ_discrete r scratch) (furth
     go (yes e) ih = simp (eq-eqb r scratch e) ih
     go (no d) ih = simp (ne_eqb r scratch d, h) ih
 
--- the nearer of two registers
-module _ (a b : ℕ) where
-  pub near_first : a < b → a ≡ nearer_of a b
-  near_first h = simp (lt-ltb a b h)
-
-  pub near_second : b ≤ a → b ≡ nearer_of a b
-  near_second h = simp (le-ltb a b h)
-
 -- the registers before r are weighed; where these are all, the last may be weighed again
 pub record Weighed (pos : ℕ → Pos) (scratch stop : ℕ) (whole : Choice) (r : ℕ) (best : Choice) : Type 0 where
   pub is : furthest pos scratch r (stop - r) best ≡ whole
@@ -85,17 +78,14 @@ module _ (pos : ℕ → Pos) (scratch stop r : ℕ) (best : Choice) where
 
 -- one register more, or the last again
 pub weighed_next : {pos : ℕ → Pos} {scratch stop r : ℕ} {whole best : Choice} → Weighed pos scratch stop whole r best
-    → (a : ℕ) → a ≡ nearer_of r (stop - 1) → (s : ℕ) → s ≡ r + 1 → Weighed pos scratch stop whole s (better scratch best a (pos a))
+    → (a : ℕ) → a ≡ min r (stop - 1) → (s : ℕ) → s ≡ r + 1 → Weighed pos scratch stop whole s (better scratch best a (pos a))
 weighed_next {pos} {scratch} {stop} {r} {whole} {best} w a e s f = rw f (go (dec_le stop r))
   where
-    inside : Dec (stop - 1 ≤ r) → r < stop → a ≡ r
-    inside (yes l) h = omega (arith, e, near_second r (stop - 1) l)
-    inside (no d) h = let l : r < stop - 1 = omega arith in omega (arith, e, near_first r (stop - 1) l)
+    inside : r < stop → a ≡ r
+    inside h = omega arith
 
     again : stop ≤ r → better scratch best a (pos a) ≡ best
-    again l = let f : stop - 1 ≤ r = omega arith in
-        let g : a ≡ stop - 1 = omega (arith, e, near_second r (stop - 1) f) in
-        rw g (w.last l)
+    again l = let g : a ≡ stop - 1 = omega arith in rw g (w.last l)
 
     past : stop ≤ r → Weighed pos scratch stop whole (r + 1) best
     past l = let k : stop ≤ r + 1 = omega arith in
@@ -103,14 +93,11 @@ weighed_next {pos} {scratch} {stop} {r} {whole} {best} w a e s f = rw f (go (dec
 
     go : Dec (stop ≤ r) → Weighed pos scratch stop whole (r + 1) (better scratch best a (pos a))
     go (yes l) = rw (again l) (past l)
-    go (no d) = let h : r < stop = omega arith in rw (inside (dec_le (stop - 1) r) h) (weighed_first pos scratch stop r best whole h w.is)
+    go (no d) = let h : r < stop = omega arith in rw (inside h) (weighed_first pos scratch stop r best whole h w.is)
 
 -- what is left of the scan from r on, with the best so far, is the whole scan
 pub record Scanned (row : List Pos) (scratch first count stop r : ℕ) (best : Choice) : Type 0 where
   pub is : furthest (pos_in row) scratch r (stop - r) best ≡ furthest (pos_in row) scratch first count None
-
-pub scanned_starts : (row : List Pos) (scratch first count : ℕ) → Scanned row scratch first count (first + count) first None
-scanned_starts row scratch first count = record { is = let e : first + count - first ≡ count = omega arith in rw e }
 
 module _ {row : List Pos} {scratch first count stop r : ℕ} {best : Choice} (s : Scanned row scratch first count stop r best) where
   pub scanned_ends : stop ≤ r → best ≡ furthest (pos_in row) scratch first count None

@@ -21,7 +21,10 @@ use Rattle.rules.specs.declared.Place.{Place}
 use Rattle.rules.specs.declared.Place.TheVariants.{Nowhere, Register, Slot}
 use Rattle.rules.specs.declared.Pos.{Pos}
 use Rattle.rules.specs.declared.Pos.TheVariants.{Blocked, At, Never}
+use Rattle.std.specs.Ordering.{ord_min}
+use Rattle.rules.specs.contracts.PosOrd.TheImpl.{cmp-value}
 use Rattle.rules.specs.Positions.{lower_of}
+use Rattle.rules.proofs.Positions.{min_lower}
 use Rattle.rules.specs.State.{Given, State, piece, fragments_of}
 use Rattle.rules.specs.Steps.{is_register, holder_in, holder, is_held, fixed_active, first_start, free_until, next_use_pos, next_use_of, pos_of_use}
 use Rattle.rules.specs.Uses.{mention_points, next_use}
@@ -40,27 +43,6 @@ use Rattle.choice.specs.Row.{pos_in, FixedRow}
 use Rattle.choice.specs.Holding.{seat_of, use_of, next_pos, HolderRow, HeldMask, OpenRow, UnfixedRow, Runs, FreeRow, NextRow}
 
 -- ---- seats
-pub seat_nowhere : (place : Place) (first stop : ℕ) → place ≡ Nowhere → None ≡ seat_of first stop place
-unfolding seat_of
-seat_nowhere place first stop e = simp e
-
-pub seat_slot : (place : Place) (t first stop : ℕ) → place ≡ Slot t → None ≡ seat_of first stop place
-unfolding seat_of
-seat_slot place t first stop e = simp e
-
-module _ {place : Place} {x : ℕ} (e : place ≡ Register x) (first stop : ℕ) where
-  pub seat_below : x < first → None ≡ seat_of first stop place
-  unfolding seat_of
-  seat_below h = simp (e, lt-leb first x h)
-
-  pub seat_inside : first ≤ x → x < stop → Some x ≡ seat_of first stop place
-  unfolding seat_of
-  seat_inside h l = simp (e, le-leb first x h, lt-ltb x stop l)
-
-  pub seat_above : first ≤ x → stop ≤ x → None ≡ seat_of first stop place
-  unfolding seat_of
-  seat_above h l = simp (e, le-leb first x h, le-ltb x stop l)
-
 -- a seat inside is a register of first..stop, and that of the place
 record Sits (first stop : ℕ) (place : Place) (r : ℕ) : Type 0 where
   low : first ≤ r
@@ -140,9 +122,6 @@ module _ (F : ℕ → Option ℕ → Pos) (s : State) (first stop : ℕ) (b : Li
 -- the walk as the code has it: the state lies in the work area, and i is counted down before it is read
 module _ (F : ℕ → Option ℕ → Pos) (cap : ℕ) (ws : List ℕ) (c : Counts) (first count : ℕ) (b : List Pos) where
   module _ (i : ℕ) (h : Holding F (state_of cap ws c) first (first + count) b i) (p : 0 < i) (y : Ready cap ws c) where
-    pub walk_active : i - 1 < c.active
-    walk_active = omega (arith, h.upto, active_are cap ws c y)
-
     one_more : i - 1 + 1 ≡ i
     one_more = omega arith
 
@@ -180,9 +159,6 @@ module _ (cap : ℕ) (ws : List ℕ) (c : Counts) where
       (record { is = λ r l. rw drop-length (no_bit r); upto = omega arith })
 
   module _ (m i : ℕ) (h : Masked (state_of cap ws c) m i) (p : 0 < i) (y : Ready cap ws c) where
-    pub mask_active : i - 1 < c.active
-    mask_active = omega (arith, h.upto, active_are cap ws c y)
-
     next : drop (i - 1) (state_of cap ws c).active ≡ get_or (state_of cap ws c).active (i - 1) 0 ∷ drop i (state_of cap ws c).active
     next = let e : i - 1 + 1 ≡ i = omega arith in rw (drop-cons (state_of cap ws c).active (i - 1) 0 (omega (arith, h.upto)), sym (add-one (i - 1)), e) refl
 
@@ -215,9 +191,6 @@ module _ (cap : ℕ) (ws : List ℕ) (c : Counts) where
               let u : is_register r (piece (state_of cap ws c) (get_or (state_of cap ws c).active (i - 1) 0)).place ≡ false = let w : is_register r q.place ≡ false = rw in_x (ne_eqb x r d) in rw mask_piece at w in
               rw (ne_eqb x r d, next) (h.is r l ∙ sym (simp u))
 
-  pub mask_ends : (m i : ℕ) → i ≤ 0 → Masked (state_of cap ws c) m i → HeldMask (state_of cap ws c) m
-  mask_ends m i l h = let z : i ≡ 0 = omega arith in record { is = λ r a. rw z at (h.is r a) }
-
 -- a register has a bit
 pub seat_bit : (place : Place) (seat : Option ℕ) (r : ℕ) → seat ≡ seat_of 0 64 place → seat ≡ Some r → r < 64
 seat_bit place seat r e f = (sits 0 64 place r (sym f ∙ e)).high
@@ -230,9 +203,6 @@ pub record Filled (P : ℕ → Pos) (first count m : ℕ) (b : List Pos) (r : �
   pub low : first ≤ r
   pub upto : r ≤ first + count
 
-pub filled_starts : (P : ℕ → Pos) (first count m : ℕ) (b : List Pos) → length b ≡ 64 → Filled P first count m b first
-filled_starts P first count m b n = record { is = λ k a l. absurd (omega arith); long = n; low = omega arith; upto = omega arith }
-
 module _ {P : ℕ → Pos} {first count m : ℕ} {b : List Pos} {r : ℕ} (g : Filled P first count m b r) where
   pub filled_more : (v : Pos) (taken : Bool) → taken ≡ has_bit m r → v ≡ choose taken Blocked (P r) → r < first + count → first + count ≤ 64 → Filled P first count m (set b r v) (r + 1)
   filled_more v taken w u h i =
@@ -241,9 +211,6 @@ module _ {P : ℕ → Pos} {first count m : ℕ} {b : List Pos} {r : ℕ} (g : F
       at : (k : ℕ) → first ≤ k → k < r + 1 → Dec (r ≡ k) → pos_in (set b r v) k ≡ choose (has_bit m k) Blocked (P k)
       at k a l (yes q) = rw (sym q) (get_or-set_same b r v Blocked (omega (arith, g.long)) ∙ u ∙ rw w refl)
       at k a l (no d) = get_or-set_other b r k v Blocked (λ q. d (sym q)) ∙ g.is k a (omega arith)
-
-  filled_ends : first + count ≤ r → (k : ℕ) → first ≤ k → k < first + count → pos_in b k ≡ choose (has_bit m k) Blocked (P k)
-  filled_ends h k a l = g.is k a (omega arith)
 
 -- as their fragments say
 abbrev pub fixed_at : List ℕ → List ℕ → ℕ → ℕ → ℕ → Pos
@@ -254,15 +221,9 @@ module _ (rs fs : List ℕ) (first count S end m : ℕ) (b : List Pos) (r : ℕ)
       → taken ≡ has_bit m r → v ≡ choose taken Blocked p → r < first + count → Filled (fixed_at rs fs S end) first count m (set b r v) (r + 1)
   opening_more range p v taken y e f w u h = filled_more g v taken w (u ∙ rw (f, e) refl) h (omega (arith, y.inside, y.fixed.few))
 
-  pub opening_ends : first + count ≤ r → OpenRow rs fs first count S end m b
-  opening_ends h = record { is = filled_ends g h }
-
 -- or free for ever, where none has a fragment ahead
 abbrev pub never_at : ℕ → Pos
 never_at k = Never
-
-pub unfixing_ends : {first count m : ℕ} {b : List Pos} {r : ℕ} → Filled never_at first count m b r → first + count ≤ r → UnfixedRow first count m b
-unfixing_ends g h = record { is = filled_ends g h }
 
 -- a register with no fragment ahead is free for ever, as far as its fragments go
 unfixed : {rs fs : List ℕ} {S first count : ℕ} {t : Tracker} (end : ℕ) → Facing rs fs S first count t → NoneSet t.ahead first count true → (r : ℕ) → first ≤ r → r < first + count
@@ -299,20 +260,13 @@ next_starts cap ws c first stop row ms S y l =
     (holding_starts (next_pos ms (state_of cap ws c) S row) (state_of cap ws c) first stop row l (λ r. refl))
 
 module _ (cap : ℕ) (ws : List ℕ) (c : Counts) (j : ℕ) (q : Piece) (k : Got cap ws c j q) (ms : List ℕ) where
-  pub next_used : (S : ℕ) (u v : Pos) (row : List Pos) (r : ℕ) → u ≡ pos_of_use (next_use S (mention_points (part q.mentions ms))) → v ≡ lower_of u (pos_in row r)
+  pub next_used : (S : ℕ) (u v : Pos) (row : List Pos) (r : ℕ) → u ≡ pos_of_use (next_use S (mention_points (part q.mentions ms))) → v ≡ ord_min cmp-value.it u (pos_in row r)
       → v ≡ next_pos ms (state_of cap ws c) S row r (Some j)
   unfolding next_pos use_of
-  next_used S u v row r e f = f ∙ rw (e, k.is)
+  next_used S u v row r e f = f ∙ min_lower u (pos_in row r) ∙ rw (e, k.is)
 
   pub next_rising : (i : ℕ) → Runs (state_of cap ws c) ms → Ready cap ws c → GotActive cap ws c i j → Rising q.mentions ms
   next_rising i n y g = rw k.is (n.rising j (omega (arith, g.inside, records_are cap ws c y)))
-
--- a use that was found, as a position
-pub use_none : (S : ℕ) (ps : List ℕ) (n : Option ℕ) → n ≡ next_use S ps → n ≡ None → Never ≡ pos_of_use (next_use S ps)
-use_none S ps n e f = simp (sym e, f)
-
-pub use_some : (S : ℕ) (ps : List ℕ) (n : Option ℕ) (p : ℕ) → n ≡ next_use S ps → n ≡ Some p → At p ≡ pos_of_use (next_use S ps)
-use_some S ps n p e f = simp (sym e, f)
 
 lower_blocked : (p : Pos) → lower_of p Blocked ≡ Blocked
 lower_blocked Blocked = refl

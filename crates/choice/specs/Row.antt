@@ -1,11 +1,10 @@
 -- Positions by register, as rows of an array: document 01, steps 2 and 4. Facts for contracts.
-use Rattle.std.specs.Prelude.{ℕ, zero, suc, ◌+◌, ◌≤◌, ◌<◌, ◌≡◌, Bool, true, false, ◌&&◌, not, List, ◌⊎◌, get_or, eqb, ltb}
+use Rattle.std.specs.Prelude.{ℕ, zero, suc, ◌+◌, ◌≤◌, ◌<◌, ◌≡◌, Bool, true, false, ◌&&◌, not, List, ◌⊎◌, get_or, eqb}
 use Rattle.words.specs.Choose.{choose}
 use Rattle.words.specs.Packed.{register_at, part}
 use Rattle.rules.specs.declared.Pos.{Pos}
 use Rattle.rules.specs.declared.Pos.TheVariants.{Blocked, At, Never}
 use Rattle.rules.specs.Steps.{Choice}
-use Rattle.std.specs.Prelude.{None, Some}
 use Rattle.rules.specs.Positions.{below}
 use Rattle.rules.specs.Steps.{pos_of, offer}
 use Rattle.activity.specs.Fixed.{fixed_pos}
@@ -31,10 +30,6 @@ entry_at row r = record { register = r; pos = pos_in row r }
 unfoldable pub furthest_entry : List RegPos → ℕ → ℕ → ℕ → Choice → Choice
 furthest_entry es scratch i zero best = best
 furthest_entry es scratch i (suc n) best = furthest_entry es scratch (suc i) n (better scratch best (get_or es i no_entry).register (get_or es i no_entry).pos)
-
--- the nearer of two registers
-abbrev pub nearer_of : ℕ → ℕ → ℕ
-nearer_of a b = choose (ltb a b) a b
 
 -- the position that none lies above
 abbrev pub is_never : Pos → Bool

@@ -10,29 +10,20 @@ ghost use Rattle.uses.specs.Runs.{Rising};
 ghost use Rattle.activity.specs.Cursors.{Facing};
 ghost use Rattle.choice.specs.Holding.{FreeRow, HeldMask, HolderRow, OpenRow, Runs, UnfixedRow, next_pos, seat_of};
 
-use crate::positions;
 use activity::{REGISTERS, Tracker, bits, fixed};
 use rules::{Piece, Place, Pos};
+use std::cmp::min;
 use store::{Counts, state};
 use uses::mentions as points;
-use words::{Range, read};
+use words::{Class, Range, read};
 
+#[tactic(auto, unfolding(crate::specs::Holding::seat_of))]
 fn seat_of(place: Place, first: usize, stop: usize) -> Option<usize>
     ensures { result ≡ seat_of first stop place }
 {
     match place {
-        Place::Nowhere => None,
-        Place::Slot(_) => None,
-        Place::Register(x) => {
-            let r = x as usize;
-            if r < first {
-                return None;
-            }
-            if r < stop {
-                return Some(r);
-            }
-            None
-        }
+        Place::Register(x) if first <= x as usize && (x as usize) < stop => Some(x as usize),
+        _ => None,
     }
 }
 
@@ -41,15 +32,11 @@ fn held_mask(work: &[u32], cap: usize, counts: Counts) -> u64
     requires { Ready cap work.now counts }
     ensures { HeldMask (state_of cap work.now counts) result }
 {
-    let mut mask = 0u64;
-    let mut i = counts.active;
-    while 0 < i {
-        i -= 1;
+    let mut mask = 0;
+    for i in (0..counts.active).rev() {
         let j = state::active_at(work, cap, counts, i);
         let q = state::piece(work, cap, counts, j);
-        let place = q.place;
-        let seat = seat_of(place, 0, REGISTERS);
-        if let Some(r) = seat {
+        if let Some(r) = seat_of(q.place, 0, REGISTERS) {
             mask = bits::with_bit(mask, r);
         }
     }
@@ -59,54 +46,44 @@ fn held_mask(work: &[u32], cap: usize, counts: Counts) -> u64
 fn unless_held(held: bool, p: Pos) -> Pos
     ensures { result ≡ choose «held» Blocked p }
 {
-    if held {
-        return Pos::Blocked;
-    }
-    p
+    if held { Pos::Blocked } else { p }
 }
 
 // The registers of a class: blocked where they are held, else as their fragments say. The row that is given is written over, so that none need be made.
 fn open_row(
-    row: [Pos; REGISTERS],
+    mut row: [Pos; REGISTERS],
     held: u64,
-    t: Tracker,
+    tracker: Tracker,
     registers: &[u32],
     fragments: &[u32],
-    first: usize,
-    count: usize,
+    class: Class,
     start: u16,
     end: u16,
 ) -> [Pos; REGISTERS]
-    requires { Facing registers.now fragments.now start first count t }
-    ensures { OpenRow registers.now fragments.now first count start end held result }
+    requires { Facing registers.now fragments.now start class.first class.count tracker }
+    ensures { OpenRow registers.now fragments.now class.first class.count start end held result }
 {
-    let mut b = row;
-    let stop = first + count;
-    let mut r = first;
-    while r < stop {
+    let first = class.first as usize;
+    let stop = first + class.count as usize;
+    for r in first..stop {
         let range = read::range_in(registers[r]);
-        let p = fixed::fixed_position(fragments, range, t.cursors[r], start, end);
-        let taken = bits::has_bit(held, r);
-        b[r] = unless_held(taken, p);
-        r += 1;
+        let p = fixed::fixed_position(fragments, range, tracker.cursors[r], start, end);
+        row[r] = unless_held(bits::has_bit(held, r), p);
     }
-    b
+    row
 }
 
 // .. where none of them has a fragment ahead.
-fn unfixed_row(row: [Pos; REGISTERS], held: u64, first: usize, count: usize) -> [Pos; REGISTERS]
-    requires { first + count ≤ 64 }
-    ensures { UnfixedRow first count held result }
+fn unfixed_row(mut row: [Pos; REGISTERS], held: u64, class: Class) -> [Pos; REGISTERS]
+    requires { class.first + class.count ≤ 64 }
+    ensures { UnfixedRow class.first class.count held result }
 {
-    let mut b = row;
-    let stop = first + count;
-    let mut r = first;
-    while r < stop {
-        let taken = bits::has_bit(held, r);
-        b[r] = unless_held(taken, Pos::Never);
-        r += 1;
+    let first = class.first as usize;
+    let stop = first + class.count as usize;
+    for r in first..stop {
+        row[r] = unless_held(bits::has_bit(held, r), Pos::Never);
     }
-    b
+    row
 }
 
 // Step 2: free-until, for each register of the popped piece's class. Every register of the class is written anew in its row.
@@ -115,23 +92,22 @@ pub fn free_until(
     work: &[u32],
     cap: usize,
     counts: Counts,
-    t: Tracker,
+    tracker: Tracker,
     registers: &[u32],
     fragments: &[u32],
-    first: usize,
-    count: usize,
+    class: Class,
     q: Piece,
 ) -> [Pos; REGISTERS]
     requires ready { Ready cap work.now counts }
-    requires facing { Facing registers.now fragments.now q.start first count t }
-    ensures { FreeRow registers.now fragments.now (state_of cap work.now counts) q first count result }
+    requires facing { Facing registers.now fragments.now q.start class.first class.count tracker }
+    ensures { FreeRow registers.now fragments.now (state_of cap work.now counts) q class.first class.count result }
 {
     let held = held_mask(work, cap, counts);
-    if bits::none_set(t.ahead, first, count) {
-        return unfixed_row(row, held, first, count);
+    if bits::none_set(tracker.ahead, class.first as usize, class.count as usize) {
+        return unfixed_row(row, held, class);
     }
     open_row(
-        row, held, t, registers, fragments, first, count, q.start, q.end,
+        row, held, tracker, registers, fragments, class, q.start, q.end,
     )
 }
 
@@ -140,10 +116,10 @@ fn use_position(mentions: &[u32], range: Range, start: u16) -> Pos
     requires { Rising range mentions.now }
     ensures { result ≡ pos_of_use (next_use start (mention_points (part range mentions.now))) }
 {
-    let Some(p) = points::next_use(mentions, range, start) else {
-        return Pos::Never;
-    };
-    Pos::At(p)
+    match points::next_use(mentions, range, start) {
+        Some(p) => Pos::At(p),
+        None => Pos::Never,
+    }
 }
 
 // Step 4: the next uses of the active pieces, below what their registers' fragments say: `block` is the class's fixed row.
@@ -153,30 +129,23 @@ pub fn next_use_row(
     cap: usize,
     counts: Counts,
     mentions: &[u32],
-    first: usize,
-    count: usize,
+    class: Class,
     start: u16,
 ) -> [Pos; REGISTERS]
     requires ready { Ready cap work.now counts }
-    requires count_bound { first + count ≤ 64 }
+    requires count_bound { class.first + class.count ≤ 64 }
     requires runs { Runs (state_of cap work.now counts) mentions.now }
-    ensures { HolderRow (next_pos mentions.now (state_of cap work.now counts) start block) (state_of cap work.now counts) first count result }
+    ensures { HolderRow (next_pos mentions.now (state_of cap work.now counts) start block) (state_of cap work.now counts) class.first class.count result }
 {
-    let mut b = block;
-    let stop = first + count;
-    let mut i = counts.active;
-    while 0 < i {
-        i -= 1;
+    let mut next = block;
+    let first = class.first as usize;
+    let stop = first + class.count as usize;
+    for i in (0..counts.active).rev() {
         let j = state::active_at(work, cap, counts, i);
         let q = state::piece(work, cap, counts, j);
-        let place = q.place;
-        let seat = seat_of(place, first, stop);
-        if let Some(r) = seat {
-            let range = q.mentions;
-            let used = use_position(mentions, range, start);
-            let old = block[r];
-            b[r] = positions::lower_of(used, old);
+        if let Some(r) = seat_of(q.place, first, stop) {
+            next[r] = min(use_position(mentions, q.mentions, start), block[r]);
         }
     }
-    b
+    next
 }

@@ -11,10 +11,9 @@ use lib.ListN.{get_or}
 use lib.Dec.{eqb}
 use borrow.Author.Tests.{eq-eqb, ne_eqb}
 use Rattle.words.specs.Choose.{choose}
-use Rattle.words.specs.Packed.{part, interval_at}
+use Rattle.words.specs.Packed.{part}
 use Rattle.words.specs.Points.{use_point, def_point}
 use Rattle.rules.specs.declared.Piece.{Piece}
-use Rattle.rules.specs.declared.Place.TheVariants.{Register}
 use Rattle.rules.specs.declared.Strategy.{Strategy}
 use Rattle.rules.specs.declared.Strategy.TheVariants.{From}
 use Rattle.rules.specs.State.{Given, State, Outcome, goes, go_on, piece, safepoints_of}
@@ -127,10 +126,6 @@ module _ (cap : ℕ) (is ms ss : List ℕ) where
             let same : get_or ss q.safepoints.index 0 ≡ x = cc (first_is q.safepoints ss up some) in
             omega (arith, same, up.below q.safepoints.index (omega (arith, up.inside), omega arith))
 
--- ---- whether it looks
-pub looks_read : (cap : ℕ) (is ws : List ℕ) (c : Counts) (k : ℕ) (q : Piece) (b : Bool) → Got cap ws c k q → b ≡ looking is q → b ≡ looking is (piece (state_of cap ws c) k)
-looks_read cap is ws c k q b g e = rw g.is at e
-
 module _ (cap : ℕ) (is ms ss ws : List ℕ) (c : Counts) (k : ℕ) (y : Strategy) (b : Bool) (e : b ≡ looking is (piece (state_of cap ws c) k)) where
   -- a reference piece in a register
   pub looked : (ws' : List ℕ) (r : Turn) → b ≡ true → Does cap ms ss ws ws' c r (at_first (cutting y is ms ss cap) (state_of cap ws c) k)
@@ -146,10 +141,6 @@ module _ (cap : ℕ) (is ms ss ws : List ℕ) (c : Counts) (k : ℕ) (y : Strate
   passed h t =
       let e' : looking is (piece (state_of cap ws c) k) ≡ false = sym e ∙ t in
       stays cap ms ss ws c k _ (record { ready = h.ready; fit = h.fit; inside = h.inside }) (sym (ap (λ (t : Bool). choose t (at_first (cutting y is ms ss cap) (state_of cap ws c) k) (goes (state_of cap ws c))) e'))
-
--- of a piece in a register the interval decides
-pub looks_register : (is : List ℕ) (q : Piece) (r : ℕ) (b : Bool) → q.place ≡ Register r → b ≡ (interval_at is q.interval).reference → b ≡ looking is q
-looks_register is q r b e f = rw e f
 
 module _ (g : Given) (s : State) (k : ℕ) where
   -- the parts of step 5 read no more than splits and spills of all that a run is given

@@ -76,11 +76,6 @@ module _ (cap : ℕ) (ms ss : List ℕ) where
   pub spilt_same : (is ws ws' : List ℕ) (c d : Counts) (k : ℕ) → HeldOf cap is ms ss ws c k → Spilt cap is ws ws' c d k → Held cap ms ss ws' d k
   spilt_same is ws ws' c d k h s = spilt_held is ws ws' c d k k h s h.inside
 
-  -- .. and after a split, with its new record
-  pub parted_held : (is ws ws' : List ℕ) (c d : Counts) (k p new : ℕ) → HeldOf cap is ms ss ws c k → new ≡ c.records → Parted cap ms ss ws ws' c d k p → HeldOf cap is ms ss ws' d new
-  parted_held is ws ws' c d k p new h n s =
-      record { ready = s.after.ready; fit = s.fit; inside = omega (arith, s.after.records); rows = s.after.intervals ∙ h.rows }
-
   -- the strategy and the intervals have no part in what is queued
   if_any : (y : Strategy) (is : List ℕ) (s : State) (k : ℕ) (x : Option ℕ) → split_if_any (cutting y is ms ss cap) s k x ≡ split_if_any (cutting From [] ms ss cap) s k x
   unfolding split_if_any split_and_queue split

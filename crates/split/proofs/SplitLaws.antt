@@ -3,9 +3,9 @@
 use Rattle.std.specs.Prelude.{Ok, Err}
 use Prim.Native.Nat.{ℕ, ◌+◌, ◌≤◌, ◌<◌}
 use mathlib.Core.Path.{◌≡◌, refl, sym, ◌∙◌}
-use mathlib.Core.List.{List, [], ◌∷◌, ◌++◌}
+use mathlib.Core.List.{List}
 use native.Mathlib.Omega.{arith}
-use lib.ListN.{length, set}
+use lib.ListN.{length}
 use borrow.Author.Tests.{lt-ltb, le-ltb}
 use Rattle.rules.specs.declared.Refusal.TheVariants.{NoRecord}
 use Rattle.rules.specs.declared.Piece.{Piece}
@@ -19,7 +19,7 @@ use Rattle.store.specs.declared.Counts.{Counts}
 use Rattle.store.proofs.StateLaws.{records_are}
 use Rattle.store.specs.StateOf.{state_of, After, Got}
 use Rattle.split.specs.Fit.{PieceFits}
-use Rattle.split.specs.Turns.{cutting, outcome_of, Held, on, off, Does, Halved, HalvesPut, Parted}
+use Rattle.split.specs.Turns.{cutting, outcome_of, Held, on, off, Does, HalvesPut, Parted}
 use Rattle.split.proofs.FitLaws.{fit_split, fit_enqueue}
 
 -- a split for which there is room, and one for which there is none
@@ -43,18 +43,6 @@ module _ (cap : ℕ) (ms ss ws : List ℕ) (c : Counts) (k : ℕ) where
   -- .. and it can be cut
   pub got_orderly : (q : Piece) → Held cap ms ss ws c k → Got cap ws c k q → Orderly q ms ss
   got_orderly q h g = record { mentions = (got_fits q h g).mentions; safepoints = (got_fits q h g).safepoints }
-
-  -- the halves of the piece can be put
-  pub halved : (q : Piece) (p : ℕ) (h : Halves) → Held cap ms ss ws c k → c.records < cap → Got cap ws c k q → Cut ms ss q p h → Halved cap ws c k h
-  halved q p h held room g t = record { ready = held.ready; inside = held.inside; room = room; parent = rw t.parent g.owner; child = rw t.child g.owner }
-
-  -- the parent was put, then the child
-  pub halves_put : (h : Halves) (ws₁ ws₂ : List ℕ) (d : Counts)
-      → After cap ws ws₁ c c (with_pieces (set (state_of cap ws c).pieces k h.parent) (state_of cap ws c)) c.records c.queued c.active
-      → After cap ws₁ ws₂ c d (with_pieces ((state_of cap ws₁ c).pieces ++ (h.child ∷ [])) (state_of cap ws₁ c)) (c.records + 1) c.queued c.active
-      → HalvesPut cap ws ws₂ c d k h
-  halves_put h ws₁ ws₂ d a b =
-      record { after = record { is = rw a.is at b.is; ready = b.ready; records = b.records; queued = b.queued; active = b.active; intervals = b.intervals; long = b.long ∙ a.long } }
 
   -- both halves were put: the record is split
   pub parted : (q : Piece) (p : ℕ) (h : Halves) (ws₁ : List ℕ) (d : Counts) → Held cap ms ss ws c k → Got cap ws c k q → Cut ms ss q p h → HalvesPut cap ws ws₁ c d k h

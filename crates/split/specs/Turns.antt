@@ -4,6 +4,7 @@ use Rattle.words.specs.Packed.{interval_count}
 use Rattle.rules.specs.declared.Refusal.{Refusal}
 use Rattle.rules.specs.declared.Strategy.{Strategy}
 use Rattle.rules.specs.declared.Strategy.TheVariants.{From}
+use Rattle.rules.specs.declared.Tables as lent
 use Rattle.rules.specs.State.{Given, State, Outcome, goes, stops, go_on, with_pieces}
 use Rattle.rules.specs.Split.{split_pieces, split_and_queue}
 use Rattle.rules.specs.Slots.{spill}
@@ -20,6 +21,10 @@ cutting y is ms ss cap =
       tables = record { instructions = 0; classes = []; registers = []; fragments = []; intervals = is; mentions = ms; safepoints = ss };
       capacity = cap;
     }
+
+-- .. of the tables of a call, as these are lent
+abbrev pub cutting_of : Strategy → lent.Tables → ℕ → Given
+cutting_of y t cap = cutting y t.intervals.now t.mentions.now t.safepoints.now cap
 
 -- how a change of the work area ends: the run goes on with these counts, or is refused
 abbrev pub Turn : Type 0
@@ -43,6 +48,10 @@ pub record HeldOf (cap : ℕ) (is ms ss ws : List ℕ) (c : Counts) (k : ℕ) : 
   pub inside : k < c.records
   pub rows : c.intervals ≡ interval_count is
 
+-- .. of the tables of a call
+abbrev pub HeldIn : ℕ → lent.Tables → List ℕ → Counts → ℕ → Type 0
+HeldIn cap t ws c k = HeldOf cap t.intervals.now t.mentions.now t.safepoints.now ws c k
+
 -- the counts d after c: as many intervals, no record less, and no more that are queued or active than there are new records for
 pub record Went (cap : ℕ) (ms ss ws : List ℕ) (c d : Counts) : Type 0 where
   pub ready : Ready cap ws d
@@ -60,6 +69,9 @@ pub record Does (cap : ℕ) (ms ss ws ws' : List ℕ) (c : Counts) (r : Turn) (o
   pub meets : outcome_of cap ws' r ≡ o
   pub turned : Turned cap ms ss ws' c r
   pub long : length ws' ≡ length ws
+
+abbrev pub DoesIn : ℕ → lent.Tables → List ℕ → List ℕ → Counts → Turn → Outcome → Type 0
+DoesIn cap t ws ws' c r o = Does cap t.mentions.now t.safepoints.now ws ws' c r o
 
 -- there is room for the child of record k, and both halves are of intervals that there are
 pub record Halved (cap : ℕ) (ws : List ℕ) (c : Counts) (k : ℕ) (h : Halves) : Type 0 where

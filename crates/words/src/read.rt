@@ -1,5 +1,6 @@
 // Words read: the fields of each table's entry, most significant first, by its words and by its index in its table.
 ghost use Rattle.std.specs.Prelude.{◌≡◌, ◌+◌, ◌*◌, ◌<◌, ◌≤◌, length, get_or};
+ghost use Rattle.words.specs.Field.{bits, flag};
 ghost use Rattle.words.specs.Packed.{class_in, class_at, range_in, register_at, fragment_in, interval_in, interval_at, interval_count, interval_words, mention_in, record_in};
 
 use crate::{Class, Fragment, Interval, Mention, Range, Record};
@@ -37,13 +38,34 @@ pub fn fragment_in(w: u32) -> Fragment
     }
 }
 
+// The first word of an interval also field by field: the assigner often wants one of them alone.
+pub fn class_of(w0: u32) -> u16
+    ensures { result ≡ bits 29 3 w0 }
+{
+    (w0 / 536870912 % 8) as u16
+}
+
+// It holds a reference.
+pub fn is_reference(w0: u32) -> bool
+    ensures { result ≡ flag 28 w0 }
+{
+    w0 / 268435456 % 2 == 1
+}
+
+// The size of its slot, as a power of two.
+pub fn log_size_of(w0: u32) -> u16
+    ensures { result ≡ bits 26 2 w0 }
+{
+    (w0 / 67108864 % 4) as u16
+}
+
 pub fn interval_in(w0: u32, w1: u32, w2: u32, w3: u32) -> Interval
     ensures { result ≡ interval_in w0 w1 w2 w3 }
 {
     Interval {
-        class: (w0 / 536870912 % 8) as u16,
-        reference: w0 / 268435456 % 2 == 1,
-        log_size: (w0 / 67108864 % 4) as u16,
+        class: class_of(w0),
+        reference: is_reference(w0),
+        log_size: log_size_of(w0),
         spare: w0 % 67108864,
         start: (w1 / 65536 % 65536) as u16,
         end: (w1 % 65536) as u16,

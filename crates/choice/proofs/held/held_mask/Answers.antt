@@ -1,14 +1,10 @@
 -- `choice::held::held_mask` meets its contract: after the active records from `i` on have had their say, the bits are those of the registers that they hold.
 -- Assumes nothing.
-use Rattle.choice.proofs.HoldingLaws.{mask_starts, mask_active, mask_past, mask_at, mask_ends, seat_bit}
-use borrow.Author.Rules.{rules}
+use Rattle.choice.proofs.HoldingLaws.{mask_starts, mask_past, mask_at, seat_bit}
 use Rattle.choice.proofs.held.held_mask.Goals as goal
 
 pub loop-i-init : goal.loop-i-init
 loop-i-init c = search mask_starts
-
-pub active_at-j-requires : goal.active_at-j-requires
-active_at-j-requires c = record { ready = search rules; i_lt_active = search mask_active }
 
 pub with_bit-mask-requires : goal.with_bit-mask-requires
 with_bit-mask-requires c = search seat_bit
@@ -18,6 +14,3 @@ loop-i-preserved-in-Some c = search mask_at
 
 pub loop-i-preserved : goal.loop-i-preserved
 loop-i-preserved c = search mask_past
-
-pub returns : goal.returns
-returns c = search mask_ends

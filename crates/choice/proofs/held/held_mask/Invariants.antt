@@ -6,6 +6,3 @@ use Rattle.choice.proofs.held.held_mask.Given as goal
 
 abbrev pub invariant-loop-i : goal.invariant-loop-i
 invariant-loop-i l = Masked (state_of l.cap l.work l.counts) l.mask l.i
-
-abbrev pub decreases-loop-i : goal.decreases-loop-i
-decreases-loop-i l = l.i

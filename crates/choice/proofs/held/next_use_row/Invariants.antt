@@ -7,7 +7,4 @@ use Rattle.choice.proofs.HoldingLaws.{Holding}
 use Rattle.choice.proofs.held.next_use_row.Given as goal
 
 abbrev pub invariant-loop-i : goal.invariant-loop-i
-invariant-loop-i l = Holding (next_pos l.mentions (state_of l.cap l.work l.counts) l.start l.block) (state_of l.cap l.work l.counts) l.first (l.first + l.count) l.b l.i
-
-abbrev pub decreases-loop-i : goal.decreases-loop-i
-decreases-loop-i l = l.i
+invariant-loop-i l = Holding (next_pos l.mentions (state_of l.cap l.work l.counts) l.start l.fn.block) (state_of l.cap l.work l.counts) l.fn.class.first (l.fn.class.first + l.fn.class.count) l.next l.i

@@ -1,13 +1,12 @@
 -- `choice::positions::better_of` meets its contract: a register above the best takes its place, and scratch never does.
 -- Assumes nothing.
-use Rattle.choice.proofs.PositionLaws.{never_scratch, better_choice, same_choice}
+use Rattle.choice.proofs.PositionLaws.{better_choice, never_scratch, same_choice}
 use Rattle.choice.proofs.positions.better_of.Goals as goal
+use Rattle.choice.proofs.positions.better_of.Goals.{else-e-scratch-via-then-e-scratch+else-lt, else-e-scratch-via-else-e-scratch}
 
-pub returns-then-e-scratch : goal.returns-then-e-scratch
-returns-then-e-scratch c = search never_scratch
+pub returns-then-lt : goal.returns-then-lt
+returns-then-lt c = search better_choice
 
-pub returns-then-below_of : goal.returns-then-below_of
-returns-then-below_of c = search better_choice
-
-pub returns-else-below_of : goal.returns-else-below_of
-returns-else-below_of c = search same_choice
+pub returns-else-e-scratch : goal.returns-else-e-scratch
+returns-else-e-scratch c =
+    elim c.else-e-scratch.branch [ else-e-scratch-via-then-e-scratch+else-lt w ↦ search same_choice | else-e-scratch-via-else-e-scratch w ↦ search never_scratch ]

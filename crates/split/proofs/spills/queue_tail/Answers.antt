@@ -4,14 +4,11 @@ use Rattle.split.proofs.SplitLaws.{got_rising}
 use Rattle.split.proofs.SpillLaws.{tail_none, tail_some}
 use Rattle.split.proofs.spills.queue_tail.Goals as goal
 
--- src/spills.rt:41:26
 pub next_use-requires : goal.next_use-requires
 next_use-requires c = search got_rising
 
--- src/spills.rt:42:9
 pub returns-in_default : goal.returns-in_default
 returns-in_default c = search tail_none
 
--- src/spills.rt:27:1
 pub returns : goal.returns
 returns c = search tail_some

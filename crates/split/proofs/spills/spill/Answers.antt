@@ -3,6 +3,5 @@
 use Rattle.split.proofs.SpillLaws.{spilt}
 use Rattle.split.proofs.spills.spill.Goals as goal
 
--- src/spills.rt:16:1
 pub returns : goal.returns
 returns c = search spilt

@@ -3,8 +3,8 @@
 use Rattle.split.proofs.SpillLaws.{of_rising, last_some, last_none}
 use Rattle.split.proofs.spills.split_and_spill.Goals as goal
 
-pub last_use-last-requires : goal.last_use-last-requires
-last_use-last-requires c = search of_rising
+pub last_use-requires : goal.last_use-requires
+last_use-requires c = search of_rising
 
 pub returns-in-Some : goal.returns-in-Some
 returns-in-Some c = search last_some

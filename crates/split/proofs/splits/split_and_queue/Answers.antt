@@ -4,10 +4,8 @@ use Rattle.split.proofs.SplitLaws.{full, queued}
 use borrow.Author.Rules.{rules}
 use Rattle.split.proofs.splits.split_and_queue.Goals as goal
 
--- src/splits.rt:50:9
 pub returns-then-cap-new : goal.returns-then-cap-new
 returns-then-cap-new c = search (rules, full)
 
--- src/splits.rt:36:1
 pub returns : goal.returns
 returns c = search (rules, queued)

@@ -1,7 +1,0 @@
--- `safepoints::looks_at` meets its contract: whether the piece that was read looks.
--- Assumes nothing.
-use Rattle.safepoints.proofs.SafepointLaws.{looks_read}
-use Rattle.safepoints.proofs.looks_at.Goals as goal
-
-pub returns : goal.returns
-returns c = search looks_read

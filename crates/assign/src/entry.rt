@@ -6,7 +6,8 @@ ghost use Rattle.rules.specs.Call.{check as checkOf};
 ghost use Rattle.rules.specs.Lent.{tables_of};
 
 use rules::{Refusal, Tables};
-use tables::{check, read};
+use tables::check;
+use words::read;
 
 const RECORD_WORDS: usize = 2;
 

@@ -11,7 +11,7 @@ use activity::{REGISTERS, Tracker, ended};
 use choice::held;
 use rules::{Pos, Tables};
 use store::{Counts, state};
-use tables::read;
+use words::read;
 
 // The record with the lowest start is popped, and what ended before it is dropped.
 fn start_of(work: &mut [u32], cap: usize, counts: Counts) -> Start
@@ -34,7 +34,7 @@ fn class_index(intervals: &[u32], v: usize) -> usize
     requires { v < interval_count intervals.now }
     ensures { result ≡ (interval_at intervals.now v).class }
 {
-    words::read::class_of(intervals[v * words::read::INTERVAL_WORDS]) as usize
+    read::class_of(intervals[v * read::INTERVAL_WORDS]) as usize
 }
 
 // The next record, with its class.

@@ -19,12 +19,6 @@ pub const MOST_INTERVALS: usize = 4096;
 
 pub const RECORD_WORDS: usize = 2;
 
-const INTERVAL_WORDS: usize = 4;
-
-const MENTIONS_WORD: usize = 2;
-
-const SAFEPOINTS_WORD: usize = 3;
-
 // The records of a claim.
 #[derive(Clone, Copy)]
 pub struct Records<'a> {
@@ -68,23 +62,11 @@ impl<'a> Seats<'a> {
     }
 }
 
-pub fn interval_count(intervals: &[u32]) -> usize
-    ensures { result ≡ interval_count intervals.now }
-{
-    intervals.len() / INTERVAL_WORDS
-}
-
 pub fn interval_at(intervals: &[u32], v: usize) -> Interval
     requires { v < interval_count intervals.now }
     ensures { Given intervals.now v result }
 {
-    let row = v * INTERVAL_WORDS;
-    read::interval_in(
-        intervals[row],
-        intervals[row + 1],
-        intervals[row + MENTIONS_WORD],
-        intervals[row + SAFEPOINTS_WORD],
-    )
+    read::interval_at(intervals, v)
 }
 
 pub fn end_of(r: Range) -> usize

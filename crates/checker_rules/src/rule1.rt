@@ -9,6 +9,7 @@ ghost use Rattle.checker_rules.specs.Tiles.{Sits, Loose, Tiled, Within, Started,
 
 use crate::entries::{self, IN_REGISTER, IN_SLOT, MOST_INTERVALS, Records, Seats};
 use crate::order::{self, Order};
+use words::read;
 
 fn known(kind: u16) -> bool
     ensures { Says result (Known kind) }
@@ -23,7 +24,7 @@ fn sits(records: Records, intervals: &[u32], k: usize) -> bool
 {
     let r = records.record(k);
     let v = r.interval as usize;
-    if entries::interval_count(intervals) <= v {
+    if read::interval_count(intervals) <= v {
         return false;
     }
     let i = entries::interval_at(intervals, v);
@@ -42,7 +43,7 @@ fn starts(intervals: &[u32], expect: &mut [u32])
     requires { interval_count intervals.now ≤ length expect.old }
     ensures { Started intervals.now expect.new }
 {
-    for v in 0..entries::interval_count(intervals) {
+    for v in 0..read::interval_count(intervals) {
         expect[v] = entries::interval_at(intervals, v).start as u32;
     }
 }
@@ -76,7 +77,7 @@ fn ended(records: Records, intervals: &[u32], expect: &[u32]) -> bool
     requires { Fronted records.words.now records.count intervals.now expect.now }
     ensures { Says result (Tiled records.entry.words.now records.entry.count intervals.now) }
 {
-    (0..entries::interval_count(intervals)).all(|v| {
+    (0..read::interval_count(intervals)).all(|v| {
         let i = entries::interval_at(intervals, v);
         expect[v] == i.end as u32 + 1
     })

@@ -1,15 +1,14 @@
 // 6: mention bad, interval by interval.
-ghost use Rattle.std.specs.Prelude.{◌≡◌, ◌<◌, ◌≤◌, length, get_or};
+ghost use Rattle.std.specs.Prelude.{◌≡◌, ◌<◌, ◌≤◌, length};
 ghost use Rattle.words.specs.Points.{within};
-ghost use Rattle.words.specs.Packed.{mention_in};
 ghost use Rattle.rules.specs.Lent.{tables_of};
 ghost use Rattle.rules.specs.Uses.{points_in};
-ghost use Rattle.rules.specs.Sound.{every, ascends, range_end, mention_good, bad_mention};
+ghost use Rattle.rules.specs.Sound.{every, range_end, mention_good, bad_mention};
 ghost use Rattle.tables.specs.Entries.{Ranged, mention_find};
 
 use crate::{tests, walk};
 use rules::Tables;
-use words::{Interval, Mention, Range, read};
+use words::{Interval, Mention, read};
 
 // Every point of mention m is in a..e.
 fn points_inside(a: u16, e: u16, m: Mention) -> bool
@@ -20,24 +19,6 @@ fn points_inside(a: u16, e: u16, m: Mention) -> bool
         && (!(m.mods || m.defs) || tests::is_within(a, e, p + 1))
 }
 
-fn instruction_at(mentions: &[u32], j: usize) -> u16
-    requires { j < length mentions.now }
-    ensures { result ≡ (mention_in (get_or mentions.now j 0)).instruction }
-{
-    read::mention_at(mentions, j).instruction
-}
-
-// Mention j of an interval's range r is above the one before it.
-fn mention_rises(mentions: &[u32], r: Range, j: usize) -> bool
-    requires { j < length mentions.now }
-    ensures { result ≡ ascends (λ k. (mention_in (get_or mentions.now k 0)).instruction) r j }
-{
-    if j <= r.index as usize {
-        return true;
-    }
-    instruction_at(mentions, j - 1) < instruction_at(mentions, j)
-}
-
 fn mention_good(tables: &Tables, i: Interval, j: usize) -> bool
     requires { j < length tables.now.mentions.now }
     ensures { result ≡ mention_good (tables_of tables.now) i j }
@@ -46,7 +27,11 @@ fn mention_good(tables: &Tables, i: Interval, j: usize) -> bool
     m.spare == 0
         && (m.uses || m.mods || m.defs)
         && points_inside(i.start, i.end, m)
-        && mention_rises(tables.mentions, i.mentions, j)
+        && tests::ascends(
+            |k| read::mention_at(tables.mentions, k).instruction as u32,
+            i.mentions,
+            j,
+        )
 }
 
 // The first bad mention of an interval.

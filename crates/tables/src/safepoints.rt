@@ -1,9 +1,9 @@
 // 7: safepoint bad, interval by interval.
-ghost use Rattle.std.specs.Prelude.{◌≡◌, ◌<◌, ◌≤◌, length, get_or};
+ghost use Rattle.std.specs.Prelude.{◌≡◌, ◌<◌, ◌≤◌, length};
 ghost use Rattle.words.specs.Points.{use_point};
 ghost use Rattle.words.specs.Packed.{part};
 ghost use Rattle.rules.specs.Lent.{tables_of};
-ghost use Rattle.rules.specs.Sound.{every, ascends, range_end, not_used_alone, safepoint_good, bad_safepoint};
+ghost use Rattle.rules.specs.Sound.{every, range_end, not_used_alone, safepoint_good, bad_safepoint};
 ghost use Rattle.tables.specs.Entries.{Ascending, Placed, safepoint_find};
 
 use crate::{tests, walk};
@@ -19,17 +19,6 @@ fn use_of(s: u32) -> u64
     ensures { result ≡ use_point s }
 {
     2 * (s as u64)
-}
-
-// Safepoint j of an interval's range r is above the one before it.
-fn safepoint_rises(safepoints: &[u32], r: Range, j: usize) -> bool
-    requires { j < length safepoints.now }
-    ensures { result ≡ ascends (λ k. get_or safepoints.now k 0) r j }
-{
-    if j <= r.index as usize {
-        return true;
-    }
-    safepoints[j - 1] < safepoints[j]
 }
 
 // No mention of range q is a use alone at instruction s. The mentions ascend, so at most one is at s.
@@ -57,7 +46,7 @@ fn safepoint_good(tables: &Tables, i: Interval, j: usize) -> bool
 {
     let s = tables.safepoints[j];
     i.reference
-        && safepoint_rises(tables.safepoints, i.safepoints, j)
+        && tests::ascends(|k| tables.safepoints[k], i.safepoints, j)
         && tests::is_within(i.start, i.end, use_of(s))
         && never_alone(i.mentions, tables.mentions, s)
 }

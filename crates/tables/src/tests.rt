@@ -1,7 +1,7 @@
 // The tests that several checks share.
-ghost use Rattle.std.specs.Prelude.{◌≡◌, ℕ, ◌<◌};
+ghost use Rattle.std.specs.Prelude.{◌≡◌, ℕ, ◌<◌, ◌≤◌};
 ghost use Rattle.words.specs.Points.{within};
-ghost use Rattle.rules.specs.Sound.{range_end, range_good, leftovers};
+ghost use Rattle.rules.specs.Sound.{ascends, range_end, range_good, leftovers};
 
 use std::ops;
 use words::Range;
@@ -44,6 +44,14 @@ pub(crate) fn range_good<F: Fn(usize) -> Range>(range_at: F, n: usize, len: usiz
     };
     let end = range_end(range);
     range.index as usize == before && end <= len && (k + 1 < n || end == len)
+}
+
+// Entry j of range r is above the one before it.
+pub(crate) fn ascends<F: Fn(usize) -> u32>(entry_at: F, r: Range, j: usize) -> bool
+    requires { (k : ℕ) → k ≤ j → F.pre entry_at k }
+    ensures { (f : ℕ → ℕ) → ((k x : ℕ) → k ≤ j → F.post entry_at k x → x ≡ f k) → result ≡ ascends f r j }
+{
+    j <= r.index as usize || entry_at(j - 1) < entry_at(j)
 }
 
 pub(crate) fn left_over(n: usize, len: usize) -> Option<u16>

@@ -5,7 +5,8 @@ ghost use Rattle.answers.specs.Lending.{Named};
 use crate::lent::{Space, first, lent, record_words};
 use crate::sink::Sink;
 use crate::{STDOUT_FILENO, Way, show, trouble};
-use cases::{Case, Key, Tables, Trouble, What};
+use cases::{Case, Key, Trouble, What};
+use rules::{Claim, Options, Tables};
 use std::fmt::Write;
 use temgurisk::Reply;
 
@@ -31,41 +32,46 @@ fn line(name: &[u8], reply: Reply, words: &[u32], out: &mut [u8]) {
     sink.end_line();
 }
 
+// The tables of the case: so many words of each lent one.
+fn tables_of<'t>(case: Case, lent: &'t cases::Tables) -> Tables<'t> {
+    let counts = case.counts;
+    Tables {
+        instructions: case.options.instructions,
+        classes: first(lent.classes, counts.classes),
+        registers: first(lent.registers, counts.registers),
+        fragments: first(lent.fragments, counts.fragments),
+        intervals: first(lent.intervals, counts.intervals),
+        mentions: first(lent.mentions, counts.mentions),
+        safepoints: first(lent.safepoints, counts.safepoints),
+    }
+}
+
 // The assigner's answer, in the room that the case asks for.
-fn assigned(case: Case, tables: &Tables, res: &mut [u32], work: &mut [u32]) -> Reply {
+fn assigned(case: Case, lent_tables: &cases::Tables, res: &mut [u32], work: &mut [u32]) -> Reply {
+    let options = Options {
+        strategy: case.options.strategy,
+        partial_split: case.options.partial_split,
+        partial_split_near_end: case.options.partial_split_near_end,
+    };
     let space = lent(case.room, res.len(), work.len());
     temgurisk::temgurisk_assign(
-        case.options.strategy,
-        case.options.partial_split,
-        case.options.partial_split_near_end,
-        case.options.instructions,
-        first(tables.classes, case.counts.classes),
-        first(tables.registers, case.counts.registers),
-        first(tables.fragments, case.counts.fragments),
-        first(tables.intervals, case.counts.intervals),
-        first(tables.mentions, case.counts.mentions),
-        first(tables.safepoints, case.counts.safepoints),
+        options,
+        &tables_of(case, lent_tables),
         &mut res[..space.result],
         &mut work[..space.work],
     )
 }
 
 // The checker's answer to a claim, the first n words: its count and total, and the claimed words.
-fn checked(case: Case, tables: &Tables, n: usize) -> Reply
-    requires { (2 ≤ n) × (n ≤ length tables.now.claim.now) }
+fn checked(case: Case, lent_tables: &cases::Tables, n: usize) -> Reply
+    requires { (2 ≤ n) × (n ≤ length lent_tables.now.claim.now) }
 {
-    temgurisk::temgurisk_check(
-        case.options.instructions,
-        first(tables.classes, case.counts.classes),
-        first(tables.registers, case.counts.registers),
-        first(tables.fragments, case.counts.fragments),
-        first(tables.intervals, case.counts.intervals),
-        first(tables.mentions, case.counts.mentions),
-        first(tables.safepoints, case.counts.safepoints),
-        &tables.claim[CLAIM_NUMBERS..n],
-        tables.claim[0],
-        tables.claim[1],
-    )
+    let claim = Claim {
+        words: &lent_tables.claim[CLAIM_NUMBERS..n],
+        count: lent_tables.claim[0],
+        total: lent_tables.claim[1],
+    };
+    temgurisk::temgurisk_check(&tables_of(case, lent_tables), &claim)
 }
 
 // Assigns, and writes the answer in words or for a person. The words that follow it are the records of a done assignment.
@@ -73,7 +79,7 @@ fn assign_case(
     way: Way,
     name: &[u8],
     case: Case,
-    tables: &Tables,
+    tables: &cases::Tables,
     res: &mut [u32],
     work: &mut [u32],
     out: &mut [u8],
@@ -92,7 +98,7 @@ fn assign_case(
 }
 
 // Checks the claim. A case without one is told as one that cannot be read, at the line before the next: that of the word `end`, where a claim was due.
-fn check_case(text: &[u8], case: Case, tables: &Tables, out: &mut [u8])
+fn check_case(text: &[u8], case: Case, tables: &cases::Tables, out: &mut [u8])
     requires { Named (length text.now) (length tables.now.claim.now) case }
 {
     match case.claim {
@@ -117,7 +123,7 @@ pub fn answer(
     way: Way,
     text: &[u8],
     case: Case,
-    tables: &Tables,
+    tables: &cases::Tables,
     res: &mut [u32],
     work: &mut [u32],
     out: &mut [u8],

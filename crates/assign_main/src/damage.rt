@@ -1,8 +1,8 @@
 // Damaged copies of done results, for the checker: each bit flipped, each pair of neighbouring bits flipped, a record dropped or doubled, a wrong total, no record at all, other words behind the claim.
 ghost use Rattle.std.specs.Prelude.{◌<◌};
 
-use crate::calls::Tables;
 use crate::print::{Numbers, Told};
+use rules::{Claim, Tables};
 use std::io::Print;
 use std::{fmt, io};
 use temgurisk::Reply;
@@ -55,7 +55,7 @@ fn all_flips(
         for b in 0..masks {
             let word = words[i];
             words[i] = word ^ mask.wrapping_shl(b);
-            let kind = kind_of(EACH_RULE.checked(words, count, total));
+            let kind = kind_of(checked(&EACH_RULE, words, count, total));
             words[i] = word;
             tally[kind] = tally[kind].wrapping_add(1);
         }
@@ -128,6 +128,15 @@ fn break_last(words: &mut [u32], count: u32) {
     }
 }
 
+fn checked(tables: &Tables, words: &[u32], count: u32, total: u32) -> Reply {
+    let claim = Claim {
+        words,
+        count,
+        total,
+    };
+    temgurisk::temgurisk_check(tables, &claim)
+}
+
 // Damages a copy, and answers what the checker says of it.
 fn judged(damage: Damage, tables: &Tables, words: &mut [u32], count: u32, total: u32) -> Reply {
     let (count, total) = match damage {
@@ -145,7 +154,7 @@ fn judged(damage: Damage, tables: &Tables, words: &mut [u32], count: u32, total:
             (count, total)
         }
     };
-    tables.checked(words, count, total)
+    checked(tables, words, count, total)
 }
 
 // A done result is accepted as it is. Words behind the claim are ignored; all other damage is seen.

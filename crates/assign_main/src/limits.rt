@@ -3,9 +3,9 @@
 // A line shows the digest of the whole result area, which is filled with 77777777 before. Where asked for, the result is then checked, and damaged.
 ghost use Rattle.std.specs.Prelude.{◌≤◌};
 
-use crate::calls::{Manner, Tables};
 use crate::print::{Told, digest};
 use crate::{damage, fill};
+use rules::{Options, Tables};
 use std::io;
 use std::io::Print;
 
@@ -19,10 +19,10 @@ const WORK_WORDS: usize = 131328;
 // "One": registers 0 and 1, scratch 1.
 const ONE: u32 = 0x28080;
 
-const MANNER: Manner = Manner {
+const OPTIONS: Options = Options {
     strategy: 1,
     partial_split: false,
-    near_end: false,
+    partial_split_near_end: false,
 };
 
 // What follows a call.
@@ -40,7 +40,7 @@ fn called_in(
     res: &mut [u32],
     work: &mut [u32],
 ) -> io::Result<()> {
-    let reply = tables.assigned(MANNER, res, work);
+    let reply = temgurisk::temgurisk_assign(OPTIONS, tables, res, work);
     println!(rt; "{label}:{} | digest {:08x}", Told(reply), digest(res))?;
     match then {
         Then::Stop => Ok(()),

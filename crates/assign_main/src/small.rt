@@ -1,8 +1,8 @@
 // The cases of standard input: a line for each, with the whole result area, 77777777 where nothing was written. Where a case is refused at entry, also the digest of the work area before and after the call. Where a case has a claim, the result is checked with its count and total, and then damaged.
-use crate::calls::{Manner, Tables};
 use crate::print::{Told, Words, digest};
 use crate::{damage, fill};
 use cases::{Case, Cursor, reader};
+use rules::{Options, Tables};
 use std::io;
 use std::io::Print;
 
@@ -30,13 +30,13 @@ const WORK_WORDS: usize = 320;
 fn called(
     rt: &impl Print,
     name: &[u8],
-    manner: Manner,
+    options: Options,
     tables: &Tables,
     res: &mut [u32],
     work: &mut [u32],
 ) -> io::Result<()> {
     let before = digest(work);
-    let reply = tables.assigned(manner, res, work);
+    let reply = temgurisk::temgurisk_assign(options, tables, res, work);
     rt.write_all(name)?;
     print!(rt; ":{} |{}", Told(reply), Words(res))?;
     if DONE < reply.number && reply.number <= LAST_AT_ENTRY {
@@ -67,12 +67,12 @@ fn shown(rt: &impl Print, name: &[u8], case: Case, lent: &cases::Tables) -> io::
         mentions: fill::part(lent.mentions, case.counts.mentions),
         safepoints: fill::part(lent.safepoints, case.counts.safepoints),
     };
-    let manner = Manner {
+    let options = Options {
         strategy: case.options.strategy,
         partial_split: case.options.partial_split,
-        near_end: case.options.partial_split_near_end,
+        partial_split_near_end: case.options.partial_split_near_end,
     };
-    called(rt, name, manner, &tables, res, &mut work[..space])?;
+    called(rt, name, options, &tables, res, &mut work[..space])?;
     if let (Some(_), [count, total]) = (case.claim, &lent.claim[..]) {
         damage::copies(rt, &tables, res, *count, *total)?;
     }

@@ -3,7 +3,7 @@
 // The tables: 8 instructions; registers 0 and 1, scratch 1, fragment [8,9] on register 0; interval 0 is a reference of size 2, [0,7], def 0, safepoint 0; interval 1 is [4,15], use 5.
 #![tactic(auto)]
 
-use rules::Refusal;
+use rules::{Claim, Refusal, Tables};
 use std::io;
 use std::io::Print;
 
@@ -13,23 +13,25 @@ const WHOLE: [u32; 8] = [
 ];
 
 fn claim(rt: &impl Print, words: &[u32], count: u32, total: u32) -> io::Result<()> {
-    let answer = checker::check(
-        8,
-        &[0x28080],
-        &[1, 0x10000],
-        &[0x80009],
-        &[0x14000000, 7, 1, 1, 0, 0x4000f, 0x10001, 0x10000],
-        &[1, 0xa0004],
-        &[0],
+    let tables = Tables {
+        instructions: 8,
+        classes: &[0x28080],
+        registers: &[1, 0x10000],
+        fragments: &[0x80009],
+        intervals: &[0x14000000, 7, 1, 1, 0, 0x4000f, 0x10001, 0x10000],
+        mentions: &[1, 0xa0004],
+        safepoints: &[0],
+    };
+    let claim = Claim {
         words,
         count,
         total,
-    );
-    match answer {
+    };
+    match checker::check(&tables, &claim) {
         Ok(_) => println!(rt; "1"),
         Err(Refusal::OverLimit) => println!(rt; "3"),
         Err(Refusal::BrokenRule(rule)) => println!(rt; "14 {rule}"),
-        _ => println!(rt; "another"),
+        Err(_) => println!(rt; "another"),
     }
 }
 
@@ -101,10 +103,15 @@ fn no_claim(rt: &impl Print) -> io::Result<()> {
     claim(rt, &WHOLE, 16385, 3)
 }
 
-fn main(rt: HostRuntime) -> io::Result<()> {
-    obeyed(&rt)?;
-    one_to_three(&rt)?;
-    four_and_five(&rt)?;
-    six_and_seven(&rt)?;
-    no_claim(&rt)
+fn claims(rt: &impl Print) -> io::Result<()> {
+    obeyed(rt)?;
+    one_to_three(rt)?;
+    four_and_five(rt)?;
+    six_and_seven(rt)?;
+    no_claim(rt)
+}
+
+// The status is 0 also where a line cannot be written.
+fn main(rt: HostRuntime) {
+    let _ = claims(&rt);
 }

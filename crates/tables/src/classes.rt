@@ -34,6 +34,7 @@ pub(crate) fn bad_class(tables: &Tables) -> Option<u16>
     requires { length tables.now.classes.now ≤ 8 }
     ensures { result ≡ bad_class (tables_of tables.now) }
 {
+    // Not `walk::first_bad`: the test of a class needs the sum of the counts before it, which the walk carries.
     let mut sum: usize = 0;
     for k in 0..tables.classes.len() {
         if !class_good(tables, k, sum) {

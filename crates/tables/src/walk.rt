@@ -5,6 +5,7 @@ ghost use Rattle.rules.specs.Sound.{first, bad_unless};
 use std::ops::Range;
 
 // What `find` finds first at some of the indices.
+// A `for`: `indices.find_map(find)` was tried and its proof did not close, for std's clauses of it speak of an iterator's runs, and no lemma brings them to a range.
 pub(crate) fn first_found<F: Fn(usize) -> Option<u16>>(
     indices: Range<usize>,
     find: F,

@@ -8,10 +8,6 @@ ghost use Rattle.checker_rules.specs.Kinds.{Known-prop};
 
 use words::{Interval, Range, Record, read};
 
-// What a record's kind says of its place.
-pub const IN_REGISTER: u16 = 1;
-
-pub const IN_SLOT: u16 = 2;
 // An instruction stands above 17 bits of a mention's word.
 pub const INSTRUCTION_UNIT: u64 = 131072;
 
@@ -67,10 +63,4 @@ pub fn interval_at(intervals: &[u32], v: usize) -> Interval
     ensures { Given intervals.now v result }
 {
     read::interval_at(intervals, v)
-}
-
-pub fn end_of(r: Range) -> usize
-    ensures { result ≡ r.index + r.count }
-{
-    r.index as usize + r.count as usize
 }

@@ -7,9 +7,9 @@ ghost use Rattle.checker_rules.specs.Order.{Empty};
 ghost use Rattle.checker_rules.specs.Kinds.{Known};
 ghost use Rattle.checker_rules.specs.Tiles.{Sits, Loose, Tiled, Within, Started, Fronted, Joined, Judged};
 
-use crate::entries::{self, IN_REGISTER, IN_SLOT, MOST_INTERVALS, Records, Seats};
+use crate::entries::{self, MOST_INTERVALS, Records, Seats};
 use crate::order::{self, Order};
-use words::read;
+use words::{IN_REGISTER, IN_SLOT, read};
 
 fn known(kind: u16) -> bool
     ensures { Says result (Known kind) }

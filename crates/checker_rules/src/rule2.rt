@@ -6,8 +6,8 @@ ghost use Rattle.checker_rules.specs.Tiles.{Tiling};
 ghost use Rattle.checker_rules.specs.Housed.{Pointed, Lowest, Highest, Whole, FitsIn, Row, Rows, Fits};
 ghost use Rattle.checker_rules.specs.Decides.{Decides2};
 
-use crate::entries::{self, IN_REGISTER, INSTRUCTION_UNIT, Seats};
-use words::{Range, Record, read};
+use crate::entries::{INSTRUCTION_UNIT, Seats};
+use words::{IN_REGISTER, Range, Record, read};
 
 fn lowest(w: u32) -> u32
     requires { Pointed w }
@@ -48,7 +48,7 @@ fn fits_in(mentions: &[u32], range: Range, r: Record) -> bool
     ensures { Says result (FitsIn mentions.now range.index (range.index + range.count) r.kind r.first r.last) }
 {
     let x = r.first as u64 / 2 * INSTRUCTION_UNIT;
-    let to = entries::end_of(range);
+    let to = range.end();
     let from = seek::lower(mentions, range.index as usize, to, x);
     for m in from..to {
         let w = mentions[m];

@@ -6,9 +6,8 @@ ghost use Rattle.checker_rules.specs.Order.{Empty};
 ghost use Rattle.checker_rules.specs.Lanes.{Lanes, Registers, Entered};
 ghost use Rattle.checker_rules.specs.Decides.{Decides4};
 
-use crate::entries::IN_REGISTER;
 use crate::order::Order;
-use words::Record;
+use words::{IN_REGISTER, Record};
 
 const MOST_REGISTERS: usize = 64;
 

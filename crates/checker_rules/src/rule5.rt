@@ -6,8 +6,8 @@ ghost use Rattle.checker_rules.specs.Lanes.{Registers};
 ghost use Rattle.checker_rules.specs.Fixed.{Run, Runs, Meets, Clear};
 ghost use Rattle.checker_rules.specs.Decides.{Decides5};
 
-use crate::entries::{self, IN_REGISTER, Records};
-use words::{Range, Record, read};
+use crate::entries::Records;
+use words::{IN_REGISTER, Range, Record, read};
 
 // The first point stands above 16 bits of a fragment's word.
 const FIRST_UNIT: u64 = 65536;
@@ -19,7 +19,7 @@ fn meets(fragments: &[u32], range: Range, r: Record) -> bool
 {
     let x = (r.last as u64 + 1) * FIRST_UNIT;
     let from = range.index as usize;
-    let j = seek::lower(fragments, from, entries::end_of(range), x);
+    let j = seek::lower(fragments, from, range.end(), x);
     from < j && r.first <= read::fragment_in(fragments[j - 1]).last
 }
 

@@ -7,8 +7,8 @@ ghost use Rattle.checker_rules.specs.Housed.{Row, Rows};
 ghost use Rattle.checker_rules.specs.Safe.{Defined, SafeIn, Safe, Points};
 ghost use Rattle.checker_rules.specs.Decides.{Decides7};
 
-use crate::entries::{self, IN_REGISTER, INSTRUCTION_UNIT, Seats};
-use words::{Interval, Range, Record, read};
+use crate::entries::{INSTRUCTION_UNIT, Seats};
+use words::{IN_REGISTER, Interval, Range, Record, read};
 
 // Def s is a point of one of these mentions.
 fn defines(mentions: &[u32], range: Range, s: u32) -> bool
@@ -16,7 +16,7 @@ fn defines(mentions: &[u32], range: Range, s: u32) -> bool
     ensures { Says result (Defined mentions.now range.index (range.index + range.count) s) }
 {
     let x = s as u64 * INSTRUCTION_UNIT;
-    let to = entries::end_of(range);
+    let to = range.end();
     let j = seek::lower(mentions, range.index as usize, to, x);
     if to <= j {
         return false;
@@ -31,7 +31,7 @@ fn safe_in(safepoints: &[u32], mentions: &[u32], i: Interval, r: Record) -> bool
     ensures { Says result (SafeIn safepoints.now i.safepoints.index (i.safepoints.index + i.safepoints.count) mentions.now i.mentions.index (i.mentions.index + i.mentions.count) r.first r.last) }
 {
     let x = (r.first as u64 + 1) / 2;
-    let to = entries::end_of(i.safepoints);
+    let to = i.safepoints.end();
     let j = seek::lower(safepoints, i.safepoints.index as usize, to, x);
     if to <= j {
         return true;

@@ -10,8 +10,6 @@ use crate::{Counts, cells, state};
 use rules::{Piece, Place};
 use words::{read, write};
 
-const INTERVAL_WORDS: usize = 4;
-
 const RECORD_WORDS: usize = 2;
 
 // The piece of the whole interval v.
@@ -20,13 +18,7 @@ fn whole_interval(intervals: &[u32], v: usize) -> Piece
     requires v_bound_2 { v < 4096 }
     ensures { Whole intervals.now v result }
 {
-    let b = v * INTERVAL_WORDS;
-    let i = read::interval_in(
-        intervals[b],
-        intervals[b + 1],
-        intervals[b + 2],
-        intervals[b + 3],
-    );
+    let i = read::interval_at(intervals, v);
     Piece {
         interval: v as u16,
         place: Place::Nowhere,
@@ -42,7 +34,7 @@ fn fill(intervals: &[u32], work: &mut [u32], cap: usize)
     requires { Loads cap intervals.now work.old }
     ensures { Filled cap intervals.now work.old work.new (interval_count intervals.now) }
 {
-    for k in 0..intervals.len() / INTERVAL_WORDS {
+    for k in 0..read::interval_count(intervals) {
         cells::put_piece(work, cap, k, whole_interval(intervals, k));
         cells::put_home(work, cap, k, None);
     }
@@ -54,7 +46,7 @@ pub fn load(intervals: &[u32], work: &mut [u32], cap: usize) -> Counts
     ensures { Loaded cap intervals.now work.old work.new result (interval_count intervals.now) }
 {
     fill(intervals, work, cap);
-    let n = intervals.len() / INTERVAL_WORDS;
+    let n = read::interval_count(intervals);
     let mut counts = Counts {
         intervals: n,
         records: n,

@@ -3,7 +3,7 @@ ghost use Rattle.std.specs.Prelude.{◌≡◌, ℕ, ◌+◌, ◌*◌, ◌<◌, �
 ghost use Rattle.store.specs.Cells.{place_of, Packable, Unpacked, home_in, HomePacked, Cells, cells, with_pieces, with_homes, with_active, At, Becomes, PieceAt, HeapOpen, HeapFilled, KeyPushed, KeyPopped};
 
 use rules::{Piece, Place};
-use words::{Record, read, write};
+use words::{IN_REGISTER, IN_SLOT, Record, read, write};
 
 const PIECE_WORDS: usize = 4;
 
@@ -12,10 +12,6 @@ const HEAP: usize = 4;
 const HOMES: usize = 5;
 
 const ACTIVE: usize = 6;
-
-const IN_REGISTER: u16 = 1;
-
-const IN_SLOT: u16 = 2;
 
 const SPILLED: u32 = 65536;
 

@@ -27,7 +27,7 @@ fn fragments_good(limit: u32, fragments: &[u32], q: Range) -> bool
     requires { range_end q ≤ length fragments.now }
     ensures { result ≡ fragments_good limit (part q fragments.now) }
 {
-    let end = tests::range_end(q);
+    let end = q.end();
     (q.index as usize..end).all(|f| fragment_good(limit, fragments, f, end))
 }
 

@@ -26,7 +26,7 @@ fn never_alone(q: Range, mentions: &[u32], s: u32) -> bool
     requires { Ascending mentions.now q }
     ensures { result ≡ every (not_used_alone s) (part q mentions.now) }
 {
-    let end = tests::range_end(q);
+    let end = q.end();
     let k = seek::lower(
         mentions,
         q.index as usize,

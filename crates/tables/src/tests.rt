@@ -16,18 +16,12 @@ pub(crate) fn is_within(a: u16, e: u16, p: u64) -> bool
     (a as u64..=e as u64).contains(&p)
 }
 
-pub(crate) fn range_end(r: Range) -> usize
-    ensures { result ≡ range_end r }
-{
-    r.index as usize + r.count as usize
-}
-
 // The indices of the entries of range r.
 pub(crate) fn indices(r: Range) -> ops::Range<usize>
     ensures start { result.start ≡ r.index }
     ensures end { result.end ≡ range_end r }
 {
-    r.index as usize..range_end(r)
+    r.index as usize..r.end()
 }
 
 // Range k of n begins where the one before it ends, and ends inside a table of `len` entries, at its end if it is the last.
@@ -40,9 +34,9 @@ pub(crate) fn range_good<F: Fn(usize) -> Range>(range_at: F, n: usize, len: usiz
     let before = if k == 0 {
         0
     } else {
-        range_end(range_at(k - 1))
+        range_at(k - 1).end()
     };
-    let end = range_end(range);
+    let end = range.end();
     range.index as usize == before && end <= len && (k + 1 < n || end == len)
 }
 

@@ -5,4 +5,4 @@ use mathlib.Core.Path.{refl}
 use Rattle.checker_rules.proofs.rule7.safe_in.Goals as goal
 
 pub returns-then-l-d : goal.returns-then-l-d
-returns-then-l-d c = safe_past _ _ _ _ _ _ _ _ _ _ _ c.requires.0 refl c.end_of-to.ensures c.lower-j.ensures _ _ c.if-to-j.false refl refl c.if-l-d.true
+returns-then-l-d c = safe_past _ _ _ _ _ _ _ _ _ _ _ c.requires.0 refl c.end-to.ensures c.lower-j.ensures _ _ c.if-to-j.false refl refl c.if-l-d.true

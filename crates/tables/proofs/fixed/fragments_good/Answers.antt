@@ -9,7 +9,7 @@ use Rattle.tables.proofs.fixed.fragments_good.Goals as goal
 pub returns : goal.returns
 returns c =
     let a = c.args in
-    let e = c.range_end-end.result in
+    let e = c.end-end.result in
     let good : ℕ → Bool = λ k. fragment_good a.limit (get_or a.fragments.now k 0) (between (k + 1) e a.fragments.now) in
     all_is good _ _ (cases_from_all _ _ _ (λ k. true ≡ good k) (λ k. false ≡ good k) c.all.ensures.ran (YieldsList-from_range a.q.index e _ refl refl) (λ x q k. search rules) (λ x q k. search rules))
-    ∙ fragments_of a.limit a.fragments.now a.q e c.range_end-end.ensures c.requires
+    ∙ fragments_of a.limit a.fragments.now a.q e c.end-end.ensures c.requires

@@ -12,7 +12,7 @@ pub fn fixed_position(fragments: &[u32], range: Range, cursor: u16, start: u16, 
     ensures { result ≡ fixed_pos start end (part range fragments.now) }
 {
     let at = cursor as usize;
-    let stop = range.end();
+    let stop = range.index as usize + range.count as usize;
     if stop <= at {
         return Pos::Never;
     }

@@ -81,7 +81,7 @@ pub fn update(
     }
     for r in first..first + count {
         let range = read::range_in(registers[r]);
-        let stop = range.end();
+        let stop = range.index as usize + range.count as usize;
         let f = moved_past(fragments, t.cursors[r], stop, start);
         t.cursors[r] = f as u16;
         t.ahead = left(t.ahead, r, f, stop);

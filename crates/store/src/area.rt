@@ -34,7 +34,7 @@ fn fill(intervals: &[u32], work: &mut [u32], cap: usize)
     requires { Loads cap intervals.now work.old }
     ensures { Filled cap intervals.now work.old work.new (interval_count intervals.now) }
 {
-    for k in 0..read::interval_count(intervals) {
+    for k in 0..intervals.len() / read::INTERVAL_WORDS {
         cells::put_piece(work, cap, k, whole_interval(intervals, k));
         cells::put_home(work, cap, k, None);
     }
@@ -46,7 +46,7 @@ pub fn load(intervals: &[u32], work: &mut [u32], cap: usize) -> Counts
     ensures { Loaded cap intervals.now work.old work.new result (interval_count intervals.now) }
 {
     fill(intervals, work, cap);
-    let n = read::interval_count(intervals);
+    let n = intervals.len() / read::INTERVAL_WORDS;
     let mut counts = Counts {
         intervals: n,
         records: n,

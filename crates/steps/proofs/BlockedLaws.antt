@@ -4,10 +4,8 @@ use Rattle.std.specs.Prelude.{Option, None, Some, Ok, Err}
 use Prim.Native.Nat.{ℕ, ◌≤◌, ◌<◌}
 use mathlib.Core.Path.{◌≡◌, refl, sym, ap, ◌∙◌}
 use mathlib.Core.Bool.{Bool, true, false}
-use mathlib.Core.List.{List, []}
+use mathlib.Core.List.{List}
 use native.Mathlib.Omega.{arith}
-use lib.ListN.{get_or, set, replicate, length-replicate}
-use lib.Seq.{get_or-set_same}
 use borrow.Author.Tests.{le-leb, lt-leb}
 use Rattle.words.specs.Choose.{choose}
 use Rattle.words.specs.Packed.{interval_count}
@@ -82,14 +80,6 @@ module _ (g : Given) where
             → choose b (take_over g s k y.register) (spill_until g s k f) ≡ choose b (take_over_at (placing_by g) s k y.register (pos_in block y.register) (holder s y.register)) (spill_until (placing_by g) s k f)
         go true b = over b
         go false b = until_any g s k f ∙ sym (until_any (placing_by g) s k f)
-
--- ---- a row, put into the outer table by class and read again
-row_back : (tab : List (List Pos)) (c : ℕ) (row : List Pos) → tab ≡ replicate 8 (replicate 64 Never) → c < 8 → get_or (set tab c row) c [] ≡ row
-row_back tab c row e l = get_or-set_same tab c row [] (rw (e, length-replicate 8 (replicate 64 Never)) l)
-
-pub use_back : (tab : List (List Pos)) (c first count scratch : ℕ) (row uses : List Pos) (o : Choice) → tab ≡ replicate 8 (replicate 64 Never) → c < 8 → uses ≡ get_or (set tab c row) c []
-    → o ≡ furthest (pos_in uses) scratch first count None → o ≡ furthest (pos_in row) scratch first count None
-use_back tab c first count scratch row uses o e l u h = rw (u, row_back tab c row e l) at h
 
 -- ---- the code's facts
 module _ (cap n : ℕ) (m : Mode) (cs rs fs is ms ss ws : List ℕ) (c : Counts) (t : Tracker) (k : ℕ) where

@@ -109,9 +109,6 @@ module _ (cap : ℕ) (is ms ss : List ℕ) where
     unheld t e =
         record { meets = rw e; turned = on c (record { ready = t.ready; fit = t.fit; records = omega arith; intervals = refl; slack = omega arith }); long = refl }
 
-    pub holder_held : (j : ℕ) → Holding cap is ms ss ws c h → h ≡ Some j → HeldOf cap is ms ss ws c j
-    holder_held j t e = record { ready = t.ready; fit = t.fit; inside = t.inside j e; rows = t.rows }
-
     pub robbed : (ws' : List ℕ) (j : ℕ) (r : Turn) → h ≡ Some j → Does cap ms ss ws ws' c r (split_and_spill (cutting y is ms ss cap) (state_of cap ws c) j S)
         → Does cap ms ss ws ws' c r (spill_holder (cutting y is ms ss cap) (state_of cap ws c) S h)
     unfolding spill_holder

@@ -1,9 +1,9 @@
 -- What is weighed in the work area is what the rules weigh.
 -- Assumes nothing.
 use Rattle.rules.specs.declared.RegPos.{RegPos}
-use Rattle.std.specs.Prelude.{Option, None, Some, Err}
+use Rattle.std.specs.Prelude.{None, Some, Err}
 use Prim.Native.Nat.{ℕ, ◌+◌, ◌≤◌, ◌<◌}
-use mathlib.Core.Path.{◌≡◌, refl, sym, ap, ◌∙◌}
+use mathlib.Core.Path.{◌≡◌, refl, sym, ◌∙◌}
 use mathlib.Core.Bool.{Bool, true, false}
 use mathlib.Core.List.{List}
 use native.Mathlib.Omega.{arith}
@@ -37,19 +37,12 @@ use Rattle.split.proofs.NarrowLaws.{until_any}
 use Rattle.steps.specs.Stepping.{placing, HolderOf, take_over_at, weigh_by, Did}
 use Rattle.steps.proofs.TakingLaws.{did}
 
--- the start of the piece that was read
-pub started : (cap : ℕ) (ws : List ℕ) (c : Counts) (k : ℕ) (q : Piece) → Got cap ws c k q → q.start ≡ (piece (state_of cap ws c) k).start
-started cap ws c k q g = ap (λ (x : Piece). x.start) g.is
-
 -- ---- the holder of a register: a walk over the active records
 module _ (cap : ℕ) (ws : List ℕ) (c : Counts) (r : ℕ) where
   -- what is left of the walk
   pub record Seeking (i : ℕ) : Type 0 where
     pub upto : i ≤ c.active
     pub rest : holder_in (state_of cap ws c) r (drop i (state_of cap ws c).active) ≡ holder (state_of cap ws c) r
-
-  pub seeking_starts : Seeking 0
-  seeking_starts = record { upto = omega arith; rest = refl }
 
   module _ (i j : ℕ) (q : Piece) (t : Bool) (ready : Ready cap ws c) (s : Seeking i) (l : i < c.active) (a : GotActive cap ws c i j) (g : Got cap ws c j q) (e : t ≡ eq-value.it q.place (Register r)) where
     turn : holder_in (state_of cap ws c) r (drop i (state_of cap ws c).active) ≡ choose t (Some j) (holder_in (state_of cap ws c) r (drop (i + 1) (state_of cap ws c).active))
@@ -88,11 +81,6 @@ module _ (cap : ℕ) (is ms ss : List ℕ) where
     until_first ws' r g n d = record { meets = rw (ne_eqb f (piece (state_of cap ws c) k).start (rw (← g.is) n)) d.meets; turned = d.turned; long = d.long }
 
   module _ (m : Mode) (ws : List ℕ) (c : Counts) (k : ℕ) where
-    -- ---- a steal
-    pub stolen : (ws' : List ℕ) (r : ℕ) (b : Pos) (h : Option ℕ) (x : Turn) → HolderOf cap ws c r h → Did cap ms ss ws ws' c x (take_over_at (placing m is ms ss cap) (state_of cap ws c) k r b h)
-        → Did cap ms ss ws ws' c x (take_over_at (placing m is ms ss cap) (state_of cap ws c) k r b (holder (state_of cap ws c) r))
-    stolen ws' r b h x o d = rw o.is at d
-
     -- ---- the weighing
     module _ (ws' : List ℕ) (f : ℕ) (B : List Pos) (x : Choice) (z : Turn) where
       pub all_blocked : x ≡ None → Does cap ms ss ws ws' c z (spill_until (cutting From is ms ss cap) (state_of cap ws c) k f)

@@ -9,7 +9,12 @@ use rules::{Done, Mode, Refusal};
 use store::{Counts, area};
 
 // The records of a run that is done; zeros for one that was refused.
-fn conclude(work: &[u32], res: &mut [u32], turn: Result<Counts, Refusal>, cap: usize) -> Result<Done, Refusal>
+fn conclude(
+    work: &[u32],
+    res: &mut [u32],
+    turn: Result<Counts, Refusal>,
+    cap: usize,
+) -> Result<Done, Refusal>
     requires { Closing cap work.now res.old turn }
     ensures { Concluded (outcome_of cap work.now turn) res.old res.new result }
 {

@@ -61,7 +61,13 @@ fn finish(
 }
 
 // Nothing is left for step 5 to do.
-fn past(intervals: &[u32], work: &[u32], cap: usize, k: usize, taken: Result<Counts, Refusal>) -> bool
+fn past(
+    intervals: &[u32],
+    work: &[u32],
+    cap: usize,
+    k: usize,
+    taken: Result<Counts, Refusal>,
+) -> bool
     requires { Looking cap intervals.now work.now k taken }
     ensures { Past cap intervals.now work.now k taken result }
 {
@@ -92,7 +98,14 @@ pub(crate) fn settle(
         return Some(taken);
     }
     Some(finish(
-        mode.strategy, intervals, mentions, safepoints, work, cap, k, taken,
+        mode.strategy,
+        intervals,
+        mentions,
+        safepoints,
+        work,
+        cap,
+        k,
+        taken,
     ))
 }
 
@@ -132,6 +145,13 @@ pub(crate) fn contend(
         k,
     );
     finish(
-        mode.strategy, intervals, mentions, safepoints, work, cap, k, taken,
+        mode.strategy,
+        intervals,
+        mentions,
+        safepoints,
+        work,
+        cap,
+        k,
+        taken,
     )
 }

@@ -67,12 +67,12 @@ module _ (T : Tables) (c : Claim) where
   broken_at j b p m f s e = record { some = p; most = m; below = f; breaks = s.fails (not-true b e) }
 
   -- a claim that is too long
-  pub over_count : 16384 < c.count → Checks T c OverLimit
+  pub over_count : 16384 < c.count → Checks T c (Err OverLimit)
   unfolding check_all check_claim
   over_count h = refused OverLimit (simp (lt-ltb 16384 c.count h))
 
   -- a claim beyond its slice
-  pub over_words : c.count ≤ 16384 → length c.words < c.count * 2 → Checks T c OverLimit
+  pub over_words : c.count ≤ 16384 → length c.words < c.count * 2 → Checks T c (Err OverLimit)
   unfolding check_all check_claim
   over_words f h = refused OverLimit (simp (le-ltb 16384 c.count f, lt-ltb (length c.words) (c.count * 2) h))
 
@@ -89,9 +89,9 @@ module _ (T : Tables) (c : Claim) where
     pub answered : (k : Check) (v : Verdict) (r : Answer) → k ≡ check_tables T → k ≡ fine → Judges T c v → r ≡ answer_of v c.count c.total → Checks T c r
     answered k v r e q j a = rw a (go v j)
       where
-        fine : check_all T c ≡ fine
-        fine = by_tables ∙ sym e ∙ q
+        passes : check_all T c ≡ fine
+        passes = by_tables ∙ sym e ∙ q
 
         go : (v : Verdict) → Judges T c v → Checks T c (answer_of v c.count c.total)
-        go Obeyed j = accepted fine j
-        go (Broken i) j = broken i fine j.some j.most j.below j.breaks
+        go Obeyed j = accepted passes j
+        go (Broken i) j = broken i passes j.some j.most j.below j.breaks

@@ -1,6 +1,6 @@
 -- Facts for contracts: what the rules' tests need of sound tables, and what they come to. What must be answered is `Checks` of rules.
 use Rattle.rules.specs.Answers.{Answer, done}
-use Rattle.std.specs.Prelude.{ℕ, ◌+◌, ◌*◌, ◌<◌, ◌≤◌, List, length}
+use Rattle.std.specs.Prelude.{ℕ, ◌+◌, ◌*◌, ◌<◌, ◌≤◌, List, length, Err}
 use Rattle.words.specs.Packed.{class_at, interval_count}
 use Rattle.rules.specs.declared.Refusal.TheVariants.{BrokenRule}
 use Rattle.rules.specs.Tables.{Tables}
@@ -48,4 +48,4 @@ Judges T c (Broken j) = BrokenAt T c j
 -- "accepts as 1 with the claimed count and total", else 14 with the lowest broken rule
 abbrev pub answer_of : Verdict → ℕ → ℕ → Answer
 answer_of Obeyed n t = done n t
-answer_of (Broken j) n t = BrokenRule j
+answer_of (Broken j) n t = Err (BrokenRule j)

@@ -8,7 +8,7 @@ ghost use Rattle.checker_rules.specs.Order.{Empty, Linked};
 ghost use Rattle.checker.specs.Verdict.{claim, Ready, Judges, answer_of};
 
 use checker_rules::{rule1, rule2, rule3, rule4, rule5, rule6, rule7};
-use rules::{Answer, Check};
+use rules::{Done, Refusal};
 use tables::check;
 
 const MOST_RECORDS: u32 = 16384;
@@ -141,15 +141,12 @@ fn judge(
 }
 
 // Accepted as done, or refused with the rule.
-fn answer(verdict: Verdict, count: u32, total: u32) -> Answer
+fn answer(verdict: Verdict, count: u32, total: u32) -> Result<Done, Refusal>
     ensures { result ≡ answer_of verdict count total }
 {
     match verdict {
-        Verdict::Obeyed => Answer::Done {
-            count: count,
-            total: total,
-        },
-        Verdict::Broken(j) => Answer::BrokenRule(j),
+        Verdict::Obeyed => Ok(Done { count, total }),
+        Verdict::Broken(j) => Err(Refusal::BrokenRule(j)),
     }
 }
 
@@ -165,7 +162,7 @@ pub fn check(
     words: &[u32],
     count: u32,
     total: u32,
-) -> Answer
+) -> Result<Done, Refusal>
     ensures { Checks (tables instructions classes.now registers.now fragments.now intervals.now mentions.now safepoints.now) (claim words.now count total) result }
 {
     if MOST_RECORDS < count {
@@ -175,7 +172,7 @@ pub fn check(
     if words.len() < records * RECORD_WORDS {
         return Err(Refusal::OverLimit);
     }
-    let checked = check::check_tables(
+    check::check_tables(
         instructions,
         classes,
         registers,
@@ -183,25 +180,18 @@ pub fn check(
         intervals,
         mentions,
         safepoints,
+    )?;
+    let verdict = judge(
+        instructions,
+        classes,
+        registers,
+        fragments,
+        intervals,
+        mentions,
+        safepoints,
+        words,
+        records,
+        total,
     );
-    match checked {
-        Err(a) => {
-            return a;
-        }
-        Ok(()) => {
-            let verdict = judge(
-                instructions,
-                classes,
-                registers,
-                fragments,
-                intervals,
-                mentions,
-                safepoints,
-                words,
-                records,
-                total,
-            );
-            return answer(verdict, count, total);
-        }
-    }
+    answer(verdict, count, total)
 }

@@ -3,7 +3,7 @@
 // The tables: 8 instructions; registers 0 and 1, scratch 1, fragment [8,9] on register 0; interval 0 is a reference of size 2, [0,7], def 0, safepoint 0; interval 1 is [4,15], use 5.
 #![tactic(auto)]
 
-use rules::Answer;
+use rules::{Done, Refusal};
 
 fn digit(j: u16) -> u8 {
     if j < 10 {
@@ -12,15 +12,15 @@ fn digit(j: u16) -> u8 {
     b'?'
 }
 
-fn show(a: Answer) {
-    match a {
-        Answer::Done { count, total } => {
+fn show(answer: Result<Done, Refusal>) {
+    match answer {
+        Ok(_) => {
             io::write_all(1, b"1\n");
         }
-        Answer::OverLimit => {
+        Err(Refusal::OverLimit) => {
             io::write_all(1, b"3\n");
         }
-        Answer::BrokenRule(j) => {
+        Err(Refusal::BrokenRule(j)) => {
             let line = [b'1', b'4', b' ', digit(j), b'\n'];
             io::write_all(1, &line);
         }

@@ -1,15 +1,15 @@
 // The two calls as C is to have them, the answer as four words. `temgurisk_c` exports them, and include/temgurisk.h declares them.
 #![tactic(auto)]
 
-ghost use Rattle.std.specs.Prelude.{◌≡◌};
+ghost use Rattle.std.specs.Prelude.{◌≡◌, Err};
 ghost use Rattle.rules.specs.Call.{Assigned};
 ghost use Rattle.rules.specs.Checker.{Checks};
 ghost use Rattle.tables.specs.Given.{tables};
 ghost use Rattle.assign.specs.Calling.{options};
 ghost use Rattle.checker.specs.Verdict.{claim};
-ghost use Rattle.temgurisk.specs.Replies.{refused, reply_of, Replied, Reviewed};
+ghost use Rattle.temgurisk.specs.Replies.{reply_of, Replied, Reviewed};
 
-use rules::Answer;
+use rules::{Done, Refusal};
 
 // An answer by document 01's numbers.
 #[repr(C)]
@@ -22,43 +22,47 @@ pub struct Reply {
 }
 
 // The place of an answer that names none.
-const NOWHERE: u32 = 65535;
+const NOWHERE: u16 = 65535;
 
-fn refusal(number: u32, place: u32) -> Reply
-    ensures { result ≡ refused number place }
+// A refusal's number and place; its count and total are 0.
+fn refused(refusal: Refusal) -> Reply
+    ensures { result ≡ reply_of (Err refusal) }
 {
+    let (number, place) = match refusal {
+        Refusal::BadStrategy => (2, NOWHERE),
+        Refusal::OverLimit => (3, NOWHERE),
+        Refusal::BadClass(k) => (4, k),
+        Refusal::BadInterval(k) => (5, k),
+        Refusal::BadMention(k) => (6, k),
+        Refusal::BadSafepoint(k) => (7, k),
+        Refusal::BadFixed(k) => (8, k),
+        Refusal::NoRoom => (9, NOWHERE),
+        Refusal::NoRecord(k) => (10, k),
+        Refusal::NoRegister(k) => (11, k),
+        Refusal::OutOfRegisters(k) => (12, k),
+        Refusal::FixedClash(k) => (13, k),
+        Refusal::BrokenRule(j) => (14, j),
+    };
     Reply {
-        number: number,
-        place: place,
+        number,
+        place: place as u32,
         count: 0,
         total: 0,
     }
 }
 
 // The four words of an answer.
-pub fn reply_of(a: Answer) -> Reply
-    ensures { result ≡ reply_of a }
+pub fn reply_of(answer: Result<Done, Refusal>) -> Reply
+    ensures { result ≡ reply_of answer }
 {
-    match a {
-        Answer::Done { count, total } => Reply {
+    match answer {
+        Ok(done) => Reply {
             number: 1,
-            place: NOWHERE,
-            count: count,
-            total: total,
+            place: NOWHERE as u32,
+            count: done.count,
+            total: done.total,
         },
-        Answer::BadStrategy => refusal(2, NOWHERE),
-        Answer::OverLimit => refusal(3, NOWHERE),
-        Answer::BadClass(k) => refusal(4, k as u32),
-        Answer::BadInterval(k) => refusal(5, k as u32),
-        Answer::BadMention(k) => refusal(6, k as u32),
-        Answer::BadSafepoint(k) => refusal(7, k as u32),
-        Answer::BadFixed(k) => refusal(8, k as u32),
-        Answer::NoRoom => refusal(9, NOWHERE),
-        Answer::NoRecord(k) => refusal(10, k as u32),
-        Answer::NoRegister(k) => refusal(11, k as u32),
-        Answer::OutOfRegisters(k) => refusal(12, k as u32),
-        Answer::FixedClash(k) => refusal(13, k as u32),
-        Answer::BrokenRule(j) => refusal(14, j as u32),
+        Err(refusal) => refused(refusal),
     }
 }
 

@@ -2,7 +2,6 @@
 ghost use Rattle.std.specs.Prelude.{◌≡◌, ℕ, ◌+◌, ◌*◌, ◌<◌, ◌≤◌};
 ghost use Rattle.words.specs.Points.{use_point, def_point, next, previous, instruction_of, is_use};
 
-
 pub fn use_point(i: u16) -> u16
     requires { i < 32768 }
     ensures { result ≡ use_point i }

@@ -116,9 +116,6 @@ module _ (F : ℕ → Option ℕ → Pos) (s : State) (first stop : ℕ) (b : Li
             let u : is_register r (piece s (get_or s.active i 0)).place ≡ false = rw e at w in
             get_or-set_other b x r v Blocked (λ k. g (sym k)) ∙ h.is r a l ∙ sym (rw (drop-cons s.active i 0 (omega (arith, h.upto)), add-one i) (simp u))
 
-  holding_ends : (count i : ℕ) → stop ≡ first + count → i ≤ 0 → Holding F s first stop b i → HolderRow F s first count b
-  holding_ends count i e l h = let z : i ≡ 0 = omega arith in record { is = λ r a m. rw z at (h.is r a (omega arith)) }
-
 -- the walk as the code has it: the state lies in the work area, and i is counted down before it is read
 module _ (F : ℕ → Option ℕ → Pos) (cap : ℕ) (ws : List ℕ) (c : Counts) (first count : ℕ) (b : List Pos) where
   module _ (i : ℕ) (h : Holding F (state_of cap ws c) first (first + count) b i) (p : 0 < i) (y : Ready cap ws c) where
@@ -141,9 +138,6 @@ module _ (F : ℕ → Option ℕ → Pos) (cap : ℕ) (ws : List ℕ) (c : Count
         pub walk_at : first + count ≤ 64 → (v : Pos) → v ≡ F r (Some j) → Holding F (state_of cap ws c) first (first + count) (set b r v) (i - 1)
         walk_at m v f =
             holding_at F (state_of cap ws c) first (first + count) b (i - 1) (rw one_more h) q walk_piece r walk_sits (omega (arith, walk_sits.high)) v (rw g.is at f)
-
-  pub walk_ends : (i : ℕ) → i ≤ 0 → Holding F (state_of cap ws c) first (first + count) b i → HolderRow F (state_of cap ws c) first count b
-  walk_ends i l h = holding_ends F (state_of cap ws c) first (first + count) b count i refl l h
 
 -- ---- the registers that are held, as bits
 -- the active records from i on have had their say
@@ -247,9 +241,6 @@ pub free_unfixed : (rs fs : List ℕ) (s : State) (q : Piece) (first count m : �
     → NoneSet t.ahead first count b → b ≡ true → UnfixedRow first count m o → FreeRow rs fs s q first count o
 free_unfixed rs fs s q first count m o b y h n e x =
     free_row rs fs s q first count m o y h (record { is = λ r a l. x.is r a l ∙ ap (λ (p : Pos). choose (has_bit m r) Blocked p) (unfixed q.end y (rw e at n) r a l) })
-
-pub class_bits : {rs fs : List ℕ} {S first count : ℕ} {t : Tracker} → Facing rs fs S first count t → first + count ≤ 64
-class_bits y = omega (arith, y.inside, y.fixed.few)
 
 -- ---- next use: a held register has its piece's next use, unless its fragments come first
 pub next_starts : (cap : ℕ) (ws : List ℕ) (c : Counts) (first stop : ℕ) (row : List Pos) (ms : List ℕ) (S : ℕ) → Ready cap ws c → length row ≡ 64

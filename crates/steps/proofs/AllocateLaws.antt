@@ -2,48 +2,37 @@
 -- Assumes nothing.
 use Rattle.rules.specs.declared.RegPos.{RegPos}
 use Rattle.std.specs.Prelude.{Option, None, Some, Ok, Err}
-use Prim.Native.Nat.{ℕ, ◌<◌}
+use Prim.Native.Nat.{ℕ, ◌≤◌, ◌<◌}
 use mathlib.Core.Path.{◌≡◌, refl, sym, ap, ◌∙◌}
 use mathlib.Core.Bool.{Bool, true, false}
 use mathlib.Core.List.{List, []}
 use native.Mathlib.Omega.{arith}
 use lib.ListN.{length}
 use lib.Dec.{ltb}
+use borrow.Author.Tests.{le-ltb}
 use Rattle.words.specs.Choose.{choose}
-use Rattle.words.specs.Packed.{part}
 use Rattle.rules.specs.declared.Refusal.{Refusal}
 use Rattle.rules.specs.Steps.{Choice}
-use Rattle.std.specs.Prelude.{None, Some}
 use Rattle.rules.specs.declared.Mode.{Mode}
 use Rattle.rules.specs.declared.Piece.{Piece}
 use Rattle.rules.specs.declared.Pos.{Pos}
 use Rattle.rules.specs.declared.Pos.TheVariants.{Blocked, At, Never}
 use Rattle.rules.specs.declared.Strategy.TheVariants.{From}
-use Rattle.rules.specs.Uses.{mention_points}
 use Rattle.rules.specs.State.{Given, State, Outcome, goes, go_on, piece}
-use Rattle.rules.specs.Split.{split_and_queue, partial_place}
+use Rattle.rules.specs.Split.{split_and_queue}
 use Rattle.rules.specs.Steps.{take_register, allocate_blocked, take_until, try_at, try_take}
 use Rattle.store.specs.declared.Counts.{Counts}
-use Rattle.store.specs.StateOf.{state_of, Got}
+use Rattle.store.specs.StateOf.{state_of}
 use Rattle.store.proofs.StateLaws.{records_are}
 use Rattle.split.specs.Turns.{Turn}
 use Rattle.split.specs.Fit.{Fit}
-use Rattle.split.specs.Turns.{cutting, outcome_of, Held, Does}
+use Rattle.split.specs.Turns.{cutting, outcome_of, Does}
 use Rattle.split.proofs.NarrowLaws.{queue_any}
 use Rattle.split.proofs.TurnLaws.{on_goes, on_went, off_stops}
 use Rattle.steps.specs.Stepping.{stepping, Parting, Taking, Took, Tries, grant_part, grant_until, grant_at, grant_of, partial_at, take_part, ended, refused, Did}
 use Rattle.steps.specs.declared.Grant.{Grant}
 use Rattle.steps.specs.declared.Grant.TheVariants.{Whole, Part}
 use Rattle.steps.proofs.TakingLaws.{fit_take}
-
--- the end of the piece that was read
-pub ends_read : (cap : ℕ) (ws : List ℕ) (c : Counts) (k a : ℕ) (q : Piece) → Got cap ws c k q → ltb q.end a ≡ ltb (piece (state_of cap ws c) k).end a
-ends_read cap ws c k a q g = ap (λ (x : Piece). ltb x.end a) g.is
-
--- its partial split
-pub part_read : (cap : ℕ) (ms ws : List ℕ) (c : Counts) (k a : ℕ) (m : Mode) (q : Piece) (x : Option ℕ) → Got cap ws c k q → x ≡ partial_place m q.start (mention_points (part q.mentions ms)) a
-    → x ≡ partial_at m ms (piece (state_of cap ws c) k) a
-part_read cap ms ws c k a m q x g e = rw g.is at e
 
 module _ (cap : ℕ) (ms ss : List ℕ) where
   -- a register taken is a step done
@@ -66,9 +55,6 @@ module _ (cap : ℕ) (ms ss : List ℕ) where
 
   -- ---- a part
   module _ (ws ws₁ : List ℕ) (c : Counts) (k r p : ℕ) (x : Turn) where
-    pub parting_held : Parting cap ms ss ws c k → Held cap ms ss ws c k
-    parting_held h = record { ready = h.ready; fit = h.fit; inside = h.inside }
-
     pub parted_taking : (d : Counts) (o : Outcome) → Parting cap ms ss ws c k → Does cap ms ss ws ws₁ c x o → x ≡ Ok d → Taking cap ws₁ d k
     parted_taking d o h t e =
         let w = on_went cap ms ss ws ws₁ c x d o t e in
@@ -98,18 +84,15 @@ module _ (cap : ℕ) (ms ss : List ℕ) where
     part_off a t i = record { meets = rw (off_stops cap ms ss ws ws₁ c x a _ t i); ends = refused a; long = t.long }
 
 -- ---- what is granted
-module _ (m : Mode) (ms : List ℕ) (q : Piece) (r a : ℕ) where
-  pub until_after : (b : Bool) → b ≡ ltb q.end a → b ≡ true → Some (Whole r) ≡ grant_until m ms q r a
-  until_after b e i = rw (← e, i) refl
-
-  module _ (b : Bool) (e : b ≡ ltb q.end a) (i : b ≡ false) (x : Option ℕ) (f : x ≡ partial_at m ms q a) where
-    pub until_part : (p : ℕ) → x ≡ Some p → Some (Part r p) ≡ grant_until m ms q r a
+module _ (m : Mode) (ms : List ℕ) (q q' : Piece) (g : q ≡ q') (r a : ℕ) where
+  module _ (h : a ≤ q.end) (x : Option ℕ) (f : x ≡ partial_at m ms q a) where
+    pub until_part : (p : ℕ) → x ≡ Some p → Some (Part r p) ≡ grant_until m ms q' r a
     unfolding grant_part
-    until_part p j = rw (← e, i, ← f, j) refl
+    until_part p j = rw (← g, le-ltb q.end a h, ← f, j) refl
 
-    pub until_none : x ≡ None → None ≡ grant_until m ms q r a
+    pub until_none : x ≡ None → None ≡ grant_until m ms q' r a
     unfolding grant_part
-    until_none j = rw (← e, i, ← f, j) refl
+    until_none j = rw (← g, le-ltb q.end a h, ← f, j) refl
 
 module _ (m : Mode) (ms : List ℕ) (q : Piece) (x : Choice) where
   pub grant_none : x ≡ None → None ≡ grant_of m ms q x
@@ -191,7 +174,3 @@ module _ (cap : ℕ) (m : Mode) (ms ss ws : List ℕ) (c : Counts) (k : ℕ) (x 
         blocked = λ n cs rs fs is i. done n cs rs fs is None f;
         kept = λ i. refl;
       }
-
--- what a piece that may be split gives
-pub parting_taking : (cap : ℕ) (ms ss ws : List ℕ) (c : Counts) (k : ℕ) → Parting cap ms ss ws c k → Taking cap ws c k
-parting_taking cap ms ss ws c k h = record { ready = h.ready; inside = h.inside; room = h.room }

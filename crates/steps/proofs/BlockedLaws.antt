@@ -4,23 +4,19 @@ use Rattle.std.specs.Prelude.{Option, None, Some, Ok, Err}
 use Prim.Native.Nat.{ℕ, ◌≤◌, ◌<◌}
 use mathlib.Core.Path.{◌≡◌, refl, sym, ap, ◌∙◌}
 use mathlib.Core.Bool.{Bool, true, false}
-use mathlib.Core.List.{List, []}
+use mathlib.Core.List.{List}
 use native.Mathlib.Omega.{arith}
-use lib.ListN.{get_or, set, replicate, length-replicate}
-use lib.Seq.{get_or-set_same}
 use borrow.Author.Tests.{le-leb, lt-leb}
 use Rattle.words.specs.Choose.{choose}
-use Rattle.words.specs.Packed.{part, interval_count}
+use Rattle.words.specs.Packed.{interval_count}
 use Rattle.words.specs.declared.Class.{Class}
 use Rattle.rules.specs.declared.Refusal.TheVariants.{NoRegister}
 use Rattle.rules.specs.Steps.{Choice}
-use Rattle.std.specs.Prelude.{None, Some}
 use Rattle.rules.specs.declared.Mode.{Mode}
 use Rattle.rules.specs.declared.Piece.{Piece}
 use Rattle.rules.specs.declared.Pos.{Pos}
 use Rattle.rules.specs.declared.Pos.TheVariants.{Blocked, At, Never}
 use Rattle.rules.specs.Positions.{below}
-use Rattle.rules.specs.Uses.{mention_points, next_use}
 use Rattle.rules.specs.State.{Given, State, Outcome, goes, stops, go_on, piece, fragments_of}
 use Rattle.rules.specs.Split.{partial_split}
 use Rattle.rules.specs.Steps.{first_start, take_register, furthest, furthest_of, holder, next_use_pos, only_scratch, cut_at, cut_before, spill_holder, spill_until, take_over, weigh, blocked_by, allocate_blocked}
@@ -28,90 +24,67 @@ use Rattle.store.specs.declared.Counts.{Counts}
 use Rattle.store.specs.StateOf.{state_of, Got}
 use Rattle.store.proofs.StateLaws.{owner_of}
 use Rattle.activity.specs.declared.Tracker.{Tracker}
-use Rattle.activity.specs.Cursors.{Facing}
 use Rattle.choice.specs.Row.{pos_in, FixedRow}
-use Rattle.choice.specs.Holding.{Runs, HolderRow, next_pos}
+use Rattle.choice.specs.Holding.{HolderRow, next_pos}
 use Rattle.choice.proofs.HoldingLaws.{next_row}
 use Rattle.choice.proofs.ChoiceLaws.{Takes, furthest_takes, next_choice, block_start}
 use Rattle.split.specs.Turns.{Turn}
 use Rattle.split.specs.Turns.{outcome_of, HeldOf, Spilt}
-use Rattle.uses.specs.Runs.{Rising}
-use Rattle.split.proofs.SpillLaws.{of_rising}
 use Rattle.split.proofs.SpillingLaws.{spilt_does}
 use Rattle.split.proofs.NarrowLaws.{spill_narrow, queue_any, until_any, and_narrow, holder_narrow}
-use Rattle.steps.specs.declared.blocked.Kind.{Kind}
-use Rattle.steps.specs.Stepping.{first_use, stepping, placing, class_for, HasClass, KindOf, Contending, Weighing, Weighed, Popping, Stepping, take_over_at, weigh_by, Chosen, Did, refused}
+use Rattle.steps.specs.declared.blocked.NumberedClass.{NumberedClass}
+use Rattle.steps.specs.Stepping.{first_use, stepping, placing, class_for, HasClass, NumberedOf, Contending, Weighing, Weighed, Popping, Stepping, take_over_at, weigh_by, Chosen, Did, refused}
 use Rattle.steps.proofs.TakingLaws.{did}
 
 -- ---- what is read once the register is known
-abbrev placing_of : Given → Given
-placing_of g = placing g.mode g.tables.intervals g.tables.mentions g.tables.safepoints g.capacity
+abbrev placing_by : Given → Given
+placing_by g = placing g.mode g.tables.intervals g.tables.mentions g.tables.safepoints g.capacity
 
 module _ (g : Given) where
-  cut_narrow : (s : State) (k b : ℕ) (x : Option ℕ) → cut_at g s k b x ≡ cut_at (placing_of g) s k b x
+  cut_narrow : (s : State) (k b : ℕ) (x : Option ℕ) → cut_at g s k b x ≡ cut_at (placing_by g) s k b x
   unfolding cut_at
-  cut_narrow s k b (Some p) = queue_any g s k p ∙ sym (queue_any (placing_of g) s k p)
-  cut_narrow s k b None = and_narrow g s k b ∙ sym (and_narrow (placing_of g) s k b)
+  cut_narrow s k b (Some p) = queue_any g s k p ∙ sym (queue_any (placing_by g) s k p)
+  cut_narrow s k b None = and_narrow g s k b ∙ sym (and_narrow (placing_by g) s k b)
 
-  before_narrow : (s : State) (k : ℕ) (b : Pos) → cut_before g s k b ≡ cut_before (placing_of g) s k b
+  before_narrow : (s : State) (k : ℕ) (b : Pos) → cut_before g s k b ≡ cut_before (placing_by g) s k b
   unfolding cut_before
   before_narrow s k Blocked = refl
   before_narrow s k (At b) = rw (cut_narrow s k b (partial_split g (piece s k) b))
   before_narrow s k Never = refl
 
-  over_narrow : (s : State) (k r : ℕ) (b : Pos) (h : Option ℕ) → take_over_at g s k r b h ≡ take_over_at (placing_of g) s k r b h
-  over_narrow s k r b h = rw (before_narrow (take_register s k r) k b) (go (cut_before (placing_of g) (take_register s k r) k b))
+  over_narrow : (s : State) (k r : ℕ) (b : Pos) (h : Option ℕ) → take_over_at g s k r b h ≡ take_over_at (placing_by g) s k r b h
+  over_narrow s k r b h = rw (before_narrow (take_register s k r) k b) (go (cut_before (placing_by g) (take_register s k r) k b))
     where
-      go : (o : Outcome) → go_on o (λ t. spill_holder g t (piece s k).start h) ≡ go_on o (λ t. spill_holder (placing_of g) t (piece s k).start h)
-      go (goes t) = holder_narrow g t (piece s k).start h ∙ sym (holder_narrow (placing_of g) t (piece s k).start h)
+      go : (o : Outcome) → go_on o (λ t. spill_holder g t (piece s k).start h) ≡ go_on o (λ t. spill_holder (placing_by g) t (piece s k).start h)
+      go (goes t) = holder_narrow g t (piece s k).start h ∙ sym (holder_narrow (placing_by g) t (piece s k).start h)
       go (stops a) = refl
 
   -- ---- the weighing: where the block row is the class's, and the choice the furthest of the next uses
   module _ (s : State) (k f first count scratch : ℕ) (row block : List Pos)
       (x : FixedRow g.tables.registers g.tables.fragments first count (piece s k).start (piece s k).end row block) where
-    weigh_is : (c : Choice) → c ≡ furthest (next_use_pos g s (piece s k)) scratch first count None → weigh g s k f c ≡ weigh_by (placing_of g) s k f (pos_in block) c
+    weigh_is : (c : Choice) → c ≡ furthest (next_use_pos g s (piece s k)) scratch first count None → weigh g s k f c ≡ weigh_by (placing_by g) s k f (pos_in block) c
     unfolding weigh weigh_by take_over
-    weigh_is None e = until_any g s k f ∙ sym (until_any (placing_of g) s k f)
+    weigh_is None e = until_any g s k f ∙ sym (until_any (placing_by g) s k f)
     weigh_is (Some y) e = go (below (At f) y.pos) refl
       where
         takes : Takes (next_use_pos g s (piece s k)) scratch first count y.register y.pos
         takes = furthest_takes (next_use_pos g s (piece s k)) scratch first count y.register y.pos (sym e)
 
-        over : below (At f) y.pos ≡ true → take_over g s k y.register ≡ take_over_at (placing_of g) s k y.register (pos_in block y.register) (holder s y.register)
+        over : below (At f) y.pos ≡ true → take_over g s k y.register ≡ take_over_at (placing_by g) s k y.register (pos_in block y.register) (holder s y.register)
         over b =
             let n : below (At f) (next_use_pos g s (piece s k) y.register) ≡ true = rw takes.is at b in
             let w : pos_in block y.register ≡ first_start (piece s k).start (piece s k).end (fragments_of g y.register) = x.held y.register takes.low takes.high ∙ block_start g s (piece s k) y.register f n in
             rw w (over_narrow s k y.register (first_start (piece s k).start (piece s k).end (fragments_of g y.register)) (holder s y.register))
 
         go : (b : Bool) → below (At f) y.pos ≡ b
-            → choose b (take_over g s k y.register) (spill_until g s k f) ≡ choose b (take_over_at (placing_of g) s k y.register (pos_in block y.register) (holder s y.register)) (spill_until (placing_of g) s k f)
+            → choose b (take_over g s k y.register) (spill_until g s k f) ≡ choose b (take_over_at (placing_by g) s k y.register (pos_in block y.register) (holder s y.register)) (spill_until (placing_by g) s k f)
         go true b = over b
-        go false b = until_any g s k f ∙ sym (until_any (placing_of g) s k f)
-
--- ---- a row, put into the outer table by class and read again
-row_back : (tab : List (List Pos)) (c : ℕ) (row : List Pos) → tab ≡ replicate 8 (replicate 64 Never) → c < 8 → get_or (set tab c row) c [] ≡ row
-row_back tab c row e l = get_or-set_same tab c row [] (rw (e, length-replicate 8 (replicate 64 Never)) l)
-
-pub block_back : (rs fs : List ℕ) (first count S end : ℕ) (tab : List (List Pos)) (c : ℕ) (old row : List Pos) → tab ≡ replicate 8 (replicate 64 Never) → c < 8
-    → old ≡ replicate 64 Never → FixedRow rs fs first count S end old row → FixedRow rs fs first count S end (replicate 64 Never) (get_or (set tab c row) c [])
-block_back rs fs first count S end tab c old row e l o h = rw (row_back tab c row e l) (rw o at h)
-
-pub use_back : (tab : List (List Pos)) (c first count scratch : ℕ) (row uses : List Pos) (o : Choice) → tab ≡ replicate 8 (replicate 64 Never) → c < 8 → uses ≡ get_or (set tab c row) c []
-    → o ≡ furthest (pos_in uses) scratch first count None → o ≡ furthest (pos_in row) scratch first count None
-use_back tab c first count scratch row uses o e l u h = rw (u, row_back tab c row e l) at h
+        go false b = until_any g s k f ∙ sym (until_any (placing_by g) s k f)
 
 -- ---- the code's facts
 module _ (cap n : ℕ) (m : Mode) (cs rs fs is ms ss ws : List ℕ) (c : Counts) (t : Tracker) (k : ℕ) where
-  -- the record is popped
-  pub stepping_popping : Stepping cap cs rs fs is ms ss ws c t k → Popping cap is ms ss ws c k
-  stepping_popping h = record { ready = h.ready; fit = h.fit; inside = h.inside; rows = h.rows; room = h.room }
-
   pub stepping_held : Stepping cap cs rs fs is ms ss ws c t k → HeldOf cap is ms ss ws c k
   stepping_held h = record { ready = h.ready; fit = h.fit; inside = h.inside; rows = h.rows }
-
-  -- its mentions rise
-  pub stepping_rising : (q : Piece) → Stepping cap cs rs fs is ms ss ws c t k → Got cap ws c k q → Rising q.mentions ms
-  stepping_rising q h g = of_rising cap ms ss is ws c k q (stepping_held h) g
 
   -- the class of the popped record
   pub has_class : Stepping cap cs rs fs is ms ss ws c t k → HasClass cs is (piece (state_of cap ws c) k).interval
@@ -119,36 +92,11 @@ module _ (cap n : ℕ) (m : Mode) (cs rs fs is ms ss ws : List ℕ) (c : Counts)
       let l : (piece (state_of cap ws c) k).interval < interval_count is = rw (← h.rows) (owner_of cap ws c k h.ready h.inside) in
       record { row = l; inside = h.tables.class _ l }
 
-  pub kind_class : (r : Kind) → KindOf cs is (piece (state_of cap ws c) k).interval r → r.class ≡ class_for cs is (state_of cap ws c) k
+  pub kind_class : (r : NumberedClass) → NumberedOf cs is (piece (state_of cap ws c) k).interval r → r.class ≡ class_for cs is (state_of cap ws c) k
   kind_class r j = j.is_class ∙ rw j.number
-
-  pub contending : (r : Kind) (x : Class) → Stepping cap cs rs fs is ms ss ws c t k → KindOf cs is (piece (state_of cap ws c) k).interval r → x ≡ r.class
-      → Contending cap cs rs fs is ms ss ws c t k r.number x
-  contending r x h j y =
-      let o = has_class h in
-      let l = h.tables.inside r.number (rw j.number o.inside) in
-      let w : x ≡ class_for cs is (state_of cap ws c) k = y ∙ kind_class r j in
-      record {
-        ready = h.ready;
-        fit = h.fit;
-        inside = h.inside;
-        rows = h.rows;
-        room = h.room;
-        few = j.few;
-        registers = rw (y, j.is_class) (omega (arith, l, h.tables.fixed.few));
-        facing = rw w h.facing;
-        is_class = w;
-      }
 
   -- ---- the weighing
   module _ (i : ℕ) (x : Class) where
-    pub contending_facing : (q : Piece) → Contending cap cs rs fs is ms ss ws c t k i x → Got cap ws c k q → Facing rs fs q.start x.first x.count t
-    contending_facing q h g = rw g.is h.facing
-
-    -- the mentions of every piece rise
-    pub weighing_runs : Weighing cap is ms ss ws c k i x → Runs (state_of cap ws c) ms
-    weighing_runs h = record { rising = λ j l. (h.fit.each j l).mentions }
-
     pub weighing_popping : Weighing cap is ms ss ws c k i x → Popping cap is ms ss ws c k
     weighing_popping h = record { ready = h.ready; fit = h.fit; inside = h.inside; rows = h.rows; room = h.room }
 
@@ -180,7 +128,7 @@ module _ (cap n : ℕ) (m : Mode) (cs rs fs is ms ss ws : List ℕ) (c : Counts)
 
   -- ---- step 4
   -- 11: no register but scratch
-  pub scratch_alone : (f : ℕ) (r : Kind) → KindOf cs is (piece (state_of cap ws c) k).interval r → r.class.count ≤ 1
+  pub scratch_alone : (f : ℕ) (r : NumberedClass) → NumberedOf cs is (piece (state_of cap ws c) k).interval r → r.class.count ≤ 1
       → Did cap ms ss ws ws c (Err (NoRegister k)) (blocked_by (stepping n m cs rs fs is ms ss cap) (state_of cap ws c) k (Some f))
   unfolding blocked_by outcome_of
   scratch_alone f r j l =
@@ -188,7 +136,7 @@ module _ (cap n : ℕ) (m : Mode) (cs rs fs is ms ss ws : List ℕ) (c : Counts)
       record { meets = sym (rw b); ends = refused _; long = refl }
 
   -- the weighing
-  pub more_registers : (ws' : List ℕ) (f : ℕ) (r : Kind) (z : Turn) → KindOf cs is (piece (state_of cap ws c) k).interval r → 1 < r.class.count
+  pub more_registers : (ws' : List ℕ) (f : ℕ) (r : NumberedClass) (z : Turn) → NumberedOf cs is (piece (state_of cap ws c) k).interval r → 1 < r.class.count
       → Did cap ms ss ws ws' c z (weigh (stepping n m cs rs fs is ms ss cap) (state_of cap ws c) k f (furthest_of (class_for cs is (state_of cap ws c) k) (next_use_pos (stepping n m cs rs fs is ms ss cap) (state_of cap ws c) (piece (state_of cap ws c) k))))
       → Did cap ms ss ws ws' c z (blocked_by (stepping n m cs rs fs is ms ss cap) (state_of cap ws c) k (Some f))
   unfolding blocked_by
@@ -210,16 +158,3 @@ module _ (cap n : ℕ) (m : Mode) (cs rs fs is ms ss ws : List ℕ) (c : Counts)
         → Did cap ms ss ws ws' c z (allocate_blocked (stepping n m cs rs fs is ms ss cap) (state_of cap ws c) k)
     unfolding allocate_blocked
     mentioned ws' f z i d = let v : first_use ms (piece (state_of cap ws c) k) ≡ Some f = sym e ∙ i in rw v d
-
--- the first use, by the piece that was read
-pub first_used : (cap : ℕ) (ms ws : List ℕ) (c : Counts) (k : ℕ) (q : Piece) (u : Option ℕ) → Got cap ws c k q → u ≡ next_use q.start (mention_points (part q.mentions ms))
-    → u ≡ first_use ms (piece (state_of cap ws c) k)
-first_used cap ms ws c k q u g e = rw g.is at e
-
--- the class, by the piece that was read
-pub kind_known : (cap : ℕ) (cs is ws : List ℕ) (c : Counts) (k v : ℕ) (q : Piece) → HasClass cs is (piece (state_of cap ws c) k).interval → Got cap ws c k q → v ≡ q.interval → HasClass cs is v
-kind_known cap cs is ws c k v q h g e = rw (e, g.is) h
-
-pub kind_read : (cap : ℕ) (cs is ws : List ℕ) (c : Counts) (k v : ℕ) (q : Piece) (r : Kind) → Got cap ws c k q → v ≡ q.interval → KindOf cs is v r
-    → KindOf cs is (piece (state_of cap ws c) k).interval r
-kind_read cap cs is ws c k v q r g e j = rw (e, g.is) at j

@@ -5,6 +5,7 @@ use Prim.Native.Nat.{ℕ, ◌+◌, ◌≤◌, ◌<◌}
 use mathlib.Core.Path.{◌≡◌, refl, sym, ◌∙◌}
 use mathlib.Core.Bool.{Bool, true, false}
 use mathlib.Core.List.{List, [], ◌∷◌, ◌++◌}
+use mathlib.Core.Logic.{◌⊎◌, ⊎_elim}
 use native.Mathlib.Omega.{arith}
 use lib.ListN.{length}
 use Rattle.words.specs.Packed.{part}
@@ -30,7 +31,7 @@ use Rattle.split.specs.Turns.{cutting, outcome_of, Held, HeldOf, Turned, on, off
 use Rattle.split.proofs.FitLaws.{fit_put}
 use Rattle.split.proofs.SpillLaws.{stays}
 use Rattle.split.proofs.NarrowLaws.{queue_any, and_narrow, holder_narrow}
-use Rattle.steps.specs.Stepping.{placing, Popping, Taking, Took, Holding, TakesOver, take_over_at, Stays, Ended, ended, refused, Did}
+use Rattle.steps.specs.Stepping.{placing, Popping, Took, Holding, TakesOver, take_over_at, Stays, Ended, ended, refused, Did}
 
 -- what a turn leaves, where a register may have been taken before it
 pub ended_from : (cap : ℕ) (ms ss ws : List ℕ) (c e : Counts) (r : Turn) → c.records ≤ e.records → e.intervals ≡ c.intervals → Turned cap ms ss ws e r → Ended cap ms ss ws c r
@@ -97,17 +98,9 @@ module _ (cap : ℕ) (is ms ss : List ℕ) where
         record { meets = rw (← g.is, e', ← f) d.meets; turned = d.turned; long = d.long }
 
     -- no fragment starts in the piece
-    pub uncut_blocked : (b : Pos) → HeldOf cap is ms ss ws c k → b ≡ Blocked → Does cap ms ss ws ws c (Ok c) (cut_before (placing m is ms ss cap) (state_of cap ws c) k b)
+    pub uncut : (b : Pos) → HeldOf cap is ms ss ws c k → (b ≡ Blocked) ⊎ (b ≡ Never) → Does cap ms ss ws ws c (Ok c) (cut_before (placing m is ms ss cap) (state_of cap ws c) k b)
     unfolding cut_before
-    uncut_blocked b h e = stays cap ms ss ws c k _ (of_held ws c k h) (rw e)
-
-    pub uncut_never : (b : Pos) → HeldOf cap is ms ss ws c k → b ≡ Never → Does cap ms ss ws ws c (Ok c) (cut_before (placing m is ms ss cap) (state_of cap ws c) k b)
-    unfolding cut_before
-    uncut_never b h e = stays cap ms ss ws c k _ (of_held ws c k h) (rw e)
-
-    pub cut_there : (ws' : List ℕ) (b : Pos) (x : ℕ) (r : Turn) → b ≡ At x → Does cap ms ss ws ws' c r (cut_before (placing m is ms ss cap) (state_of cap ws c) k (At x))
-        → Does cap ms ss ws ws' c r (cut_before (placing m is ms ss cap) (state_of cap ws c) k b)
-    cut_there ws' b x r e d = rw e d
+    uncut b h o = ⊎_elim (λ e. stays cap ms ss ws c k _ (of_held ws c k h) (rw e)) (λ e. stays cap ms ss ws c k _ (of_held ws c k h) (rw e)) o
 
   -- nobody held the register, or its holder is spilled
   module _ (y : Strategy) (ws : List ℕ) (c : Counts) (S : ℕ) (h : Option ℕ) where
@@ -116,17 +109,10 @@ module _ (cap : ℕ) (is ms ss : List ℕ) where
     unheld t e =
         record { meets = rw e; turned = on c (record { ready = t.ready; fit = t.fit; records = omega arith; intervals = refl; slack = omega arith }); long = refl }
 
-    pub holder_held : (j : ℕ) → Holding cap is ms ss ws c h → h ≡ Some j → HeldOf cap is ms ss ws c j
-    holder_held j t e = record { ready = t.ready; fit = t.fit; inside = t.inside j e; rows = t.rows }
-
     pub robbed : (ws' : List ℕ) (j : ℕ) (r : Turn) → h ≡ Some j → Does cap ms ss ws ws' c r (split_and_spill (cutting y is ms ss cap) (state_of cap ws c) j S)
         → Does cap ms ss ws ws' c r (spill_holder (cutting y is ms ss cap) (state_of cap ws c) S h)
     unfolding spill_holder
     robbed ws' j r e d = record { meets = rw e d.meets; turned = d.turned; long = d.long }
-
-  -- a record that is popped can take a register
-  pub popping_taking : (ws : List ℕ) (c : Counts) (k : ℕ) → Popping cap is ms ss ws c k → Taking cap ws c k
-  popping_taking ws c k t = record { ready = t.ready; inside = t.inside; room = t.room }
 
   pub popping_took : (ws ws₁ : List ℕ) (c d : Counts) (k r : ℕ) → Popping cap is ms ss ws c k → Took cap ws ws₁ c d k r → HeldOf cap is ms ss ws₁ d k
   popping_took ws ws₁ c d k r t u = took_held ws ws₁ c d k r (record { ready = t.ready; fit = t.fit; inside = t.inside; rows = t.rows }) u
@@ -150,9 +136,6 @@ module _ (cap : ℕ) (is ms ss : List ℕ) where
       go t (refused a) f = let z : ◌≡◌ {A = ℕ} 0 1 = cc in absurd (omega arith)
 
   module _ (m : Mode) (ws ws₁ : List ℕ) (c : Counts) (k r S : ℕ) (b : Pos) (h : Option ℕ) (x : Turn) where
-    pub over_popping : TakesOver cap is ms ss ws c k S h → Popping cap is ms ss ws c k
-    over_popping t = record { ready = t.ready; fit = t.fit; inside = t.inside; rows = t.rows; room = t.room }
-
     -- the holder is still a record
     pub over_holding : (e : Counts) (o : Outcome) → TakesOver cap is ms ss ws c k S h → Did cap ms ss ws ws₁ c x o → x ≡ Ok e → Holding cap is ms ss ws₁ e h
     over_holding e o t v i =

@@ -1,31 +1,32 @@
 -- What is weighed in the work area is what the rules weigh.
 -- Assumes nothing.
 use Rattle.rules.specs.declared.RegPos.{RegPos}
-use Rattle.std.specs.Prelude.{Option, None, Some, Err}
+use Rattle.std.specs.Prelude.{None, Some, Err}
 use Prim.Native.Nat.{ℕ, ◌+◌, ◌≤◌, ◌<◌}
-use mathlib.Core.Path.{◌≡◌, refl, sym, ap, ◌∙◌}
+use mathlib.Core.Path.{◌≡◌, refl, sym, ◌∙◌}
 use mathlib.Core.Bool.{Bool, true, false}
 use mathlib.Core.List.{List}
 use native.Mathlib.Omega.{arith}
 use native.Mathlib.Numerals.{add-one}
 use lib.ListN.{length, drop, drop_of_length-le}
 use lib.Seq.{drop-cons}
-use lib.Dec.{eqb}
 use borrow.Author.Tests.{eq-eqb, ne_eqb}
 use Rattle.words.specs.Choose.{choose}
 use Rattle.rules.specs.declared.Refusal.TheVariants.{OutOfRegisters}
 use Rattle.rules.specs.Steps.{Choice}
-use Rattle.std.specs.Prelude.{None, Some}
 use Rattle.rules.specs.declared.Mode.{Mode}
 use Rattle.rules.specs.declared.Piece.{Piece}
-use Rattle.rules.specs.declared.Place.{Place}
 use Rattle.rules.specs.declared.Place.TheVariants.{Register}
 use Rattle.rules.specs.declared.Pos.{Pos}
 use Rattle.rules.specs.declared.Pos.TheVariants.{At}
 use Rattle.rules.specs.declared.Strategy.TheVariants.{From}
-use Rattle.rules.specs.Positions.{below}
+use Rattle.rules.specs.contracts.PosPartialOrd.TheImpl.{partial_cmp-value}
+use Rattle.rules.specs.contracts.PlacePartialEq.TheImpl.{eq-value}
+use Rattle.rules.proofs.Places.{same_register}
+use Rattle.rules.proofs.Positions.{less_below}
+use Rattle.std.specs.Ordering.{partial_lt}
 use Rattle.rules.specs.State.{piece}
-use Rattle.rules.specs.Steps.{is_register, holder_in, holder, spill_until}
+use Rattle.rules.specs.Steps.{holder_in, holder, spill_until}
 use Rattle.store.specs.declared.Counts.{Counts}
 use Rattle.store.specs.StateOf.{state_of, Ready, Got, GotActive}
 use Rattle.store.proofs.StateLaws.{active_are}
@@ -33,20 +34,8 @@ use Rattle.choice.specs.Row.{pos_in}
 use Rattle.split.specs.Turns.{Turn}
 use Rattle.split.specs.Turns.{cutting, outcome_of, HeldOf, Does, off, split_then_spill}
 use Rattle.split.proofs.NarrowLaws.{until_any}
-use Rattle.steps.specs.Stepping.{placing, Popping, HolderOf, take_over_at, weigh_by, Chosen, Did}
+use Rattle.steps.specs.Stepping.{placing, HolderOf, take_over_at, weigh_by, Did}
 use Rattle.steps.proofs.TakingLaws.{did}
-
--- a register that is chosen is one of 64
-pub in_range : (x : Choice) (e : RegPos) → Chosen x → x ≡ Some e → e.register < 64
-in_range x e h i = h.below e i
-
--- the start of the piece that was read
-pub started : (cap : ℕ) (ws : List ℕ) (c : Counts) (k : ℕ) (q : Piece) → Got cap ws c k q → q.start ≡ (piece (state_of cap ws c) k).start
-started cap ws c k q g = ap (λ (x : Piece). x.start) g.is
-
--- a place is register r if it is a register, and that one
-pub register_is : (r x : ℕ) (w : Place) → w ≡ Register x → eqb x r ≡ is_register r w
-register_is r x w e = rw e
 
 -- ---- the holder of a register: a walk over the active records
 module _ (cap : ℕ) (ws : List ℕ) (c : Counts) (r : ℕ) where
@@ -55,15 +44,12 @@ module _ (cap : ℕ) (ws : List ℕ) (c : Counts) (r : ℕ) where
     pub upto : i ≤ c.active
     pub rest : holder_in (state_of cap ws c) r (drop i (state_of cap ws c).active) ≡ holder (state_of cap ws c) r
 
-  pub seeking_starts : Seeking 0
-  seeking_starts = record { upto = omega arith; rest = refl }
-
-  module _ (i j : ℕ) (q : Piece) (t : Bool) (ready : Ready cap ws c) (s : Seeking i) (l : i < c.active) (a : GotActive cap ws c i j) (g : Got cap ws c j q) (e : t ≡ is_register r q.place) where
+  module _ (i j : ℕ) (q : Piece) (t : Bool) (ready : Ready cap ws c) (s : Seeking i) (l : i < c.active) (a : GotActive cap ws c i j) (g : Got cap ws c j q) (e : t ≡ eq-value.it q.place (Register r)) where
     turn : holder_in (state_of cap ws c) r (drop i (state_of cap ws c).active) ≡ choose t (Some j) (holder_in (state_of cap ws c) r (drop (i + 1) (state_of cap ws c).active))
     unfolding holder_in
     turn =
         let long : i < length (state_of cap ws c).active = omega (arith, active_are cap ws c ready) in
-        rw (drop-cons (state_of cap ws c).active i 0 long, ← a.is, ← g.is, ← e, add-one i)
+        rw (drop-cons (state_of cap ws c).active i 0 long, ← a.is, ← g.is, ← same_register q.place r, ← e, add-one i)
 
     pub seeking_more : t ≡ false → Seeking (i + 1)
     seeking_more f = record { upto = omega arith; rest = sym (turn ∙ rw f) ∙ s.rest }
@@ -95,14 +81,6 @@ module _ (cap : ℕ) (is ms ss : List ℕ) where
     until_first ws' r g n d = record { meets = rw (ne_eqb f (piece (state_of cap ws c) k).start (rw (← g.is) n)) d.meets; turned = d.turned; long = d.long }
 
   module _ (m : Mode) (ws : List ℕ) (c : Counts) (k : ℕ) where
-    pub popping_held : Popping cap is ms ss ws c k → HeldOf cap is ms ss ws c k
-    popping_held t = record { ready = t.ready; fit = t.fit; inside = t.inside; rows = t.rows }
-
-    -- ---- a steal
-    pub stolen : (ws' : List ℕ) (r : ℕ) (b : Pos) (h : Option ℕ) (x : Turn) → HolderOf cap ws c r h → Did cap ms ss ws ws' c x (take_over_at (placing m is ms ss cap) (state_of cap ws c) k r b h)
-        → Did cap ms ss ws ws' c x (take_over_at (placing m is ms ss cap) (state_of cap ws c) k r b (holder (state_of cap ws c) r))
-    stolen ws' r b h x o d = rw o.is at d
-
     -- ---- the weighing
     module _ (ws' : List ℕ) (f : ℕ) (B : List Pos) (x : Choice) (z : Turn) where
       pub all_blocked : x ≡ None → Does cap ms ss ws ws' c z (spill_until (cutting From is ms ss cap) (state_of cap ws c) k f)
@@ -110,13 +88,13 @@ module _ (cap : ℕ) (is ms ss : List ℕ) where
       unfolding weigh_by
       all_blocked e d = rw (e, until_any (placing m is ms ss cap) (state_of cap ws c) k f) (did cap ms ss ws ws' c z _ d)
 
-      module _ (y : RegPos) (t : Bool) (e : x ≡ Some y) (i : t ≡ below (At f) y.pos) where
+      module _ (y : RegPos) (t : Bool) (e : x ≡ Some y) (i : t ≡ partial_lt partial_cmp-value.it (At f) y.pos) where
         pub weighed_own : t ≡ false → Does cap ms ss ws ws' c z (spill_until (cutting From is ms ss cap) (state_of cap ws c) k f)
             → Did cap ms ss ws ws' c z (weigh_by (placing m is ms ss cap) (state_of cap ws c) k f (pos_in B) x)
         unfolding weigh_by
-        weighed_own o d = rw (e, ← i, o, until_any (placing m is ms ss cap) (state_of cap ws c) k f) (did cap ms ss ws ws' c z _ d)
+        weighed_own o d = rw (e, ← less_below (At f) y.pos, ← i, o, until_any (placing m is ms ss cap) (state_of cap ws c) k f) (did cap ms ss ws ws' c z _ d)
 
         pub weighed_steal : (b : Pos) → t ≡ true → b ≡ pos_in B y.register → Did cap ms ss ws ws' c z (take_over_at (placing m is ms ss cap) (state_of cap ws c) k y.register b (holder (state_of cap ws c) y.register))
             → Did cap ms ss ws ws' c z (weigh_by (placing m is ms ss cap) (state_of cap ws c) k f (pos_in B) x)
         unfolding weigh_by
-        weighed_steal b o w d = rw (e, ← i, o, ← w) d
+        weighed_steal b o w d = rw (e, ← less_below (At f) y.pos, ← i, o, ← w) d

@@ -8,11 +8,11 @@ use Rattle.rules.specs.Uses.{mention_points, next_use}
 use Rattle.words.specs.Packed.{part, class_at, interval_at, interval_count}
 use Rattle.rules.specs.declared.Refusal.{Refusal}
 use Rattle.rules.specs.Steps.{Choice}
-use Rattle.std.specs.Prelude.{None, Some}
 use Rattle.rules.specs.declared.Mode.{Mode}
 use Rattle.rules.specs.declared.Pos.{Pos}
 use Rattle.rules.specs.declared.Pos.TheVariants.{Blocked, At, Never}
 use Rattle.rules.specs.Positions.{below}
+use Rattle.rules.specs.declared.Tables as lent
 use Rattle.rules.specs.State.{Given, State, Outcome, goes, go_on, piece}
 use Rattle.rules.specs.declared.Strategy.TheVariants.{From}
 use Rattle.rules.specs.Split.{split_and_queue, partial_place}
@@ -24,7 +24,7 @@ use Rattle.activity.specs.Fixed.{Fixed}
 use Rattle.activity.specs.Cursors.{Facing}
 use Rattle.steps.specs.declared.Grant.{Grant}
 use Rattle.steps.specs.declared.Grant.TheVariants.{Whole, Part}
-use Rattle.steps.specs.declared.blocked.Kind.{Kind}
+use Rattle.steps.specs.declared.blocked.NumberedClass.{NumberedClass}
 use Rattle.split.specs.Turns.{Turn}
 use Rattle.choice.specs.Row.{pos_in}
 use Rattle.choice.specs.Holding.{HolderRow, next_pos}
@@ -39,6 +39,13 @@ stepping n m cs rs fs is ms ss cap =
 -- .. and what is read of it once the register is known
 abbrev pub placing : Mode → List ℕ → List ℕ → List ℕ → ℕ → Given
 placing m is ms ss cap = stepping 0 m [] [] [] is ms ss cap
+
+-- .. of the tables of a call, as these are lent
+abbrev pub stepping_of : Mode → lent.Tables → ℕ → Given
+stepping_of m t cap = stepping t.instructions m t.classes.now t.registers.now t.fragments.now t.intervals.now t.mentions.now t.safepoints.now cap
+
+abbrev pub placing_of : Mode → lent.Tables → ℕ → Given
+placing_of m t cap = placing m t.intervals.now t.mentions.now t.safepoints.now cap
 
 -- the first use of a piece
 abbrev pub first_use : List ℕ → Piece → Option ℕ
@@ -61,7 +68,7 @@ pub record HasClass (cs is : List ℕ) (v : ℕ) : Type 0 where
   pub inside : (interval_at is v).class < length cs
 
 -- .. which was read
-pub record KindOf (cs is : List ℕ) (v : ℕ) (r : Kind) : Type 0 where
+pub record NumberedOf (cs is : List ℕ) (v : ℕ) (r : NumberedClass) : Type 0 where
   pub number : r.number ≡ (interval_at is v).class
   pub few : r.number < 8
   pub is_class : r.class ≡ class_at cs r.number
@@ -74,6 +81,9 @@ pub record Popping (cap : ℕ) (is ms ss ws : List ℕ) (c : Counts) (k : ℕ) :
   pub rows : c.intervals ≡ interval_count is
   pub room : c.queued + c.active < c.records
 
+abbrev pub PoppingIn : ℕ → lent.Tables → List ℕ → Counts → ℕ → Type 0
+PoppingIn cap t ws c k = Popping cap t.intervals.now t.mentions.now t.safepoints.now ws c k
+
 -- .. and the cursors of its class face its start
 pub record Stepping (cap : ℕ) (cs rs fs is ms ss ws : List ℕ) (c : Counts) (t : Tracker) (k : ℕ) : Type 0 where
   pub ready : Ready cap ws c
@@ -83,6 +93,9 @@ pub record Stepping (cap : ℕ) (cs rs fs is ms ss ws : List ℕ) (c : Counts) (
   pub room : c.queued + c.active < c.records
   pub tables : Tabled cs rs fs is
   pub facing : Facing rs fs (piece (state_of cap ws c) k).start (class_for cs is (state_of cap ws c) k).first (class_for cs is (state_of cap ws c) k).count t
+
+abbrev pub SteppingIn : ℕ → lent.Tables → List ℕ → Counts → Tracker → ℕ → Type 0
+SteppingIn cap t ws c u k = Stepping cap t.classes.now t.registers.now t.fragments.now t.intervals.now t.mentions.now t.safepoints.now ws c u k
 
 -- record k can take a register
 pub record Taking (cap : ℕ) (ws : List ℕ) (c : Counts) (k : ℕ) : Type 0 where
@@ -146,6 +159,9 @@ pub record Did (cap : ℕ) (ms ss ws ws' : List ℕ) (c : Counts) (r : Turn) (o 
   pub ends : Ended cap ms ss ws' c r
   pub long : length ws' ≡ length ws
 
+abbrev pub DidIn : ℕ → lent.Tables → List ℕ → List ℕ → Counts → Turn → Outcome → Type 0
+DidIn cap t ws ws' c r o = Did cap t.mentions.now t.safepoints.now ws ws' c r o
+
 -- the popped record k, and its class x with its number i: its cursors face the record's start
 pub record Contending (cap : ℕ) (cs rs fs is ms ss ws : List ℕ) (c : Counts) (t : Tracker) (k i : ℕ) (x : Class) : Type 0 where
   pub ready : Ready cap ws c
@@ -180,6 +196,9 @@ pub record Parting (cap : ℕ) (ms ss ws : List ℕ) (c : Counts) (k : ℕ) : Ty
   pub fit : Fit ms ss (state_of cap ws c).pieces
   pub inside : k < c.records
   pub room : c.queued + c.active < c.records
+
+abbrev pub PartingIn : ℕ → lent.Tables → List ℕ → Counts → ℕ → Type 0
+PartingIn cap t ws c k = Parting cap t.mentions.now t.safepoints.now ws c k
 
 -- the place of a partial split of a piece at a
 abbrev pub partial_at : Mode → List ℕ → Piece → ℕ → Option ℕ

@@ -1,10 +1,11 @@
 -- `steps::allocate::granted_until` meets its contract: the whole register, a part, or none.
 -- Assumes nothing.
-use Rattle.steps.proofs.AllocateLaws.{until_after, until_part, until_none}
+use Rattle.split.proofs.SplitLaws.{got_rising}
+use Rattle.steps.proofs.AllocateLaws.{until_part, until_none}
 use Rattle.steps.proofs.allocate.granted_until.Goals as goal
 
-pub returns-then-ends_before : goal.returns-then-ends_before
-returns-then-ends_before c = search until_after
+pub partial_place-requires : goal.partial_place-requires
+partial_place-requires c = search got_rising
 
 pub returns-in_err-at : goal.returns-in_err-at
 returns-in_err-at c = rw c.from_residual.ensures (search (until_none, c.in_err-at.was))

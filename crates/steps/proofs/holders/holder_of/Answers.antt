@@ -1,13 +1,10 @@
 -- `steps::holders::holder_of` meets its contract: what is left of the walk holds the answer, and the first record in the register is it.
 -- Assumes nothing.
-use Rattle.steps.proofs.WeighingLaws.{seeking_starts, seeking_more, seeking_found, seeking_ends}
+use Rattle.steps.proofs.WeighingLaws.{seeking_more, seeking_found, seeking_ends}
 use Rattle.steps.proofs.holders.holder_of.Goals as goal
 
-pub loop-i-init : goal.loop-i-init
-loop-i-init c = search seeking_starts
-
-pub returns-then-is_register : goal.returns-then-is_register
-returns-then-is_register c = search seeking_found
+pub returns-then-eq : goal.returns-then-eq
+returns-then-eq c = search seeking_found
 
 pub loop-i-preserved : goal.loop-i-preserved
 loop-i-preserved c = search seeking_more

@@ -1,7 +1,0 @@
--- `steps::allocate::ends_before` meets its contract: the end of the piece that was read.
--- Assumes nothing.
-use Rattle.steps.proofs.AllocateLaws.{ends_read}
-use Rattle.steps.proofs.allocate.ends_before.Goals as goal
-
-pub returns : goal.returns
-returns c = search ends_read

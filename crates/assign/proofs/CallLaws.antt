@@ -15,6 +15,7 @@ use mir.Syntax.{w32}
 use borrow.Author.Tests.{lt-ltb, le-ltb, ltb-false, ne_eqb}
 use Rattle.words.specs.Choose.{choose}
 use Rattle.words.specs.Packed.{interval_count, record_words}
+use Rattle.rules.specs.declared.Options.{Options}
 use Rattle.rules.specs.declared.Refusal.{Refusal}
 use Rattle.rules.specs.declared.Refusal.TheVariants.{BadStrategy, NoRoom}
 use Rattle.rules.specs.declared.Mode.{Mode}
@@ -38,12 +39,6 @@ use Rattle.tables.specs.Given.{tables}
 use Rattle.assign.specs.Calling.{options, Allowed, Begun, Ran, Ends, done, refused, Closing, Concluded}
 
 -- ---- the strategy: what a number that is m names, and a number that is none of the seven
-pub named : (n m : ℕ) (a : Option Strategy) → n ≡ m → a ≡ strategy_of m → a ≡ strategy_of n
-named n m a e f = f ∙ ap strategy_of (sym e)
-
-pub unnamed : (n : ℕ) → (n ≡ 1 → ⊥) → (n ≡ 2 → ⊥) → (n ≡ 3 → ⊥) → (n ≡ 4 → ⊥) → (n ≡ 5 → ⊥) → (n ≡ 6 → ⊥) → (n ≡ 7 → ⊥) → None ≡ strategy_of n
-unnamed n a b c d e f g = simp (ne_eqb _ _ a, ne_eqb _ _ b, ne_eqb _ _ c, ne_eqb _ _ d, ne_eqb _ _ e, ne_eqb _ _ f, ne_eqb _ _ g)
-
 -- ---- 3 to 8, then 9
 module _ (T : Tables) (cap work : ℕ) (r : Check) (e : r ≡ check_tables T) where
   pub check_refused : (a : Refusal) → r ≡ Err a → Err a ≡ check T cap work
@@ -141,37 +136,37 @@ lets_in T out ws cap k c d g =
     let b = room_passed (interval_count T.intervals) cap (length ws) (then_right (check_tables T) (check_room (interval_count T.intervals) cap (length ws)) (sym d ∙ g)) in
     record { checked = record { sound = accepted T (then_left (check_tables T) _ (sym d ∙ g)); most = omega (arith, c); long = omega (arith, b.1); inside = b.0 }; is = c }
 
-module _ (n : ℕ) (p e : Bool) (T : Tables) (out ws : List ℕ) (q : Option Strategy) (s : q ≡ strategy_of n) where
+module _ (o : Options) (T : Tables) (out ws : List ℕ) where
   -- 2
-  pub unknown : q ≡ None → Assigned (options n p e) T out out ws ws (Err BadStrategy)
+  pub unknown : strategy_of o.strategy ≡ None → Assigned o T out out ws ws (Err BadStrategy)
   unfolding assign assign_by
   unknown f =
-      let b : assign (options n p e) T out (length ws) ≡ record { answer = Err BadStrategy; leaves = out } = ap (assign_by (options n p e) T out (length ws)) (sym s ∙ f) in
+      let b : assign o T out (length ws) ≡ record { answer = Err BadStrategy; leaves = out } = ap (assign_by o T out (length ws)) f in
       record { answers = sym (ap (λ (x : Effect). x.answer) b); leaves = sym (ap (λ (x : Effect). x.leaves) b); keeps = λ l h. refl }
 
-  module _ (y : Strategy) (f : q ≡ Some y) (cap : ℕ) (c : cap ≡ capacity out) (k : Check) (d : k ≡ check T cap (length ws)) where
+  module _ (y : Strategy) (f : strategy_of o.strategy ≡ Some y) (cap : ℕ) (c : cap ≡ capacity out) (k : Check) (d : k ≡ check T cap (length ws)) where
     abbrev ends : Effect
-    ends = finish (run_for (mode_of y (options n p e)) T cap) out
+    ends = finish (run_for (mode_of y o) T cap) out
 
-    known : assign (options n p e) T out (length ws) ≡ unless_refused k out ends
+    known : assign o T out (length ws) ≡ unless_refused k out ends
     unfolding assign assign_by
     known =
-        ap (assign_by (options n p e) T out (length ws)) (sym s ∙ f)
-        ∙ ap (λ (m : ℕ). unless_refused (check T m (length ws)) out (finish (run_for (mode_of y (options n p e)) T m) out)) (sym c)
+        ap (assign_by o T out (length ws)) f
+        ∙ ap (λ (m : ℕ). unless_refused (check T m (length ws)) out (finish (run_for (mode_of y o) T m) out)) (sym c)
         ∙ ap (λ (x : Check). unless_refused x out ends) (sym d)
 
     -- 3 to 9
-    pub turned_away : (a : Refusal) → k ≡ Err a → Assigned (options n p e) T out out ws ws (Err a)
+    pub turned_away : (a : Refusal) → k ≡ Err a → Assigned o T out out ws ws (Err a)
     turned_away a g =
-        let b : assign (options n p e) T out (length ws) ≡ record { answer = Err a; leaves = out } = known ∙ ap (λ (x : Check). unless_refused x out ends) g in
+        let b : assign o T out (length ws) ≡ record { answer = Err a; leaves = out } = known ∙ ap (λ (x : Check). unless_refused x out ends) g in
         record { answers = sym (ap (λ (x : Effect). x.answer) b); leaves = sym (ap (λ (x : Effect). x.leaves) b); keeps = λ l h. refl }
 
     -- 1, and 10 to 13
-    pub let_in : (out' ws' : List ℕ) (a : Answer) → k ≡ fine → Concluded (run_for (mode_of y (options n p e)) T cap) out out' a → Assigned (options n p e) T out out' ws ws' a
+    pub let_in : (out' ws' : List ℕ) (a : Answer) → k ≡ fine → Concluded (run_for (mode_of y o) T cap) out out' a → Assigned o T out out' ws ws' a
     let_in out' ws' a g x =
-        let b : assign (options n p e) T out (length ws) ≡ ends = known ∙ ap (λ (x : Check). unless_refused x out ends) g in
+        let b : assign o T out (length ws) ≡ ends = known ∙ ap (λ (x : Check). unless_refused x out ends) g in
         record {
           answers = x.answers ∙ sym (ap (λ (x : Effect). x.answer) b);
           leaves = x.leaves ∙ sym (ap (λ (x : Effect). x.leaves) b);
-          keeps = λ l h. absurd (not_entry (mode_of y (options n p e)) T cap (length ws) out a (sym d ∙ g) x.answers l h);
+          keeps = λ l h. absurd (not_entry (mode_of y o) T cap (length ws) out a (sym d ∙ g) x.answers l h);
         }

@@ -26,6 +26,7 @@ pub(crate) fn capacity_of(res: &[u32]) -> usize
 }
 
 // 9: a record for each interval, and a work area long enough for the capacity.
+#[tactic(auto, unfolding(rules::specs::Room::check_room))]
 fn check_room(intervals: usize, cap: usize, work: usize) -> Result<(), Refusal>
     requires { cap ≤ 16384 }
     ensures { result ≡ check_room intervals cap work }

@@ -29,9 +29,9 @@ pub(crate) fn run(
         free[f.index] = fronts::free_row(free[f.index], tables, work, cap, f, t);
         if let Some(taken) = settling::settle(mode, tables, work, cap, f, free[f.index]) {
             c = taken?;
-        } else {
-            c = settling::contend(mode, tables, work, cap, f, t)?;
+            continue;
         }
+        c = settling::contend(mode, tables, work, cap, f, t)?;
     }
     Ok(c)
 }

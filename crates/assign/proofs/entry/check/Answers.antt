@@ -8,4 +8,4 @@ pub returns-in_err-check_tables : goal.returns-in_err-check_tables
 returns-in_err-check_tables c = passed_on _ _ _ c.from_residual.ensures.1 (search (check_refused, c.in_err-check_tables.was))
 
 pub returns : goal.returns
-returns c = search (check_passed, c.in_ok-check_tables.was)
+returns c = check_passed _ _ _ _ c.check_tables.ensures _ c.in_ok-check_tables.was (rw (← c.interval_count.ensures) c.check_room.ensures)

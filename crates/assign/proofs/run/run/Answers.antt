@@ -17,36 +17,36 @@ returns-then-c-eq0 c = search going_empty
 pub front-f-requires : goal.front-f-requires
 front-f-requires c = record { turning = search going_turns; queued_nonzero = search rules }
 
-pub track-t-requires : goal.track-t-requires
-track-t-requires c = search going_tracks
+pub track-requires : goal.track-requires
+track-requires c = search going_tracks
 
 pub free_row-requires : goal.free_row-requires
 free_row-requires c = search going_faces
 
-pub settle-tried-requires : goal.settle-tried-requires
-settle-tried-requires c = going_takes _ _ _ _ _ _ _ _ _ _ _ _ _ _ _ c.loop-turn.invariant _ _ c.front-f.ensures
+pub settle-requires : goal.settle-requires
+settle-requires c = going_takes _ _ _ _ _ _ _ _ _ _ _ _ _ _ _ c.loop-turn.invariant _ _ c.front-f.ensures
 
 pub returns-in_err-c : goal.returns-in_err-c
 returns-in_err-c c =
-    let d = did_settle _ _ _ _ _ _ _ _ _ _ _ _ _ _ _ c.loop-turn.invariant _ _ c.front-f.ensures _ c.free_row.ensures _ _ c.settle-tried.ensures _ c.in-Some.is in
+    let d = did_settle _ _ _ _ _ _ _ _ _ _ _ _ _ _ _ c.loop-turn.invariant _ _ c.front-f.ensures _ c.free_row.ensures _ _ c.settle.ensures _ c.in-Some.is in
     rw (passed _ _ c.from_residual.ensures.1) (search (going_off, c.in_err-c.was))
 
 pub loop-turn-preserved-in-Some : goal.loop-turn-preserved-in-Some
 loop-turn-preserved-in-Some c =
-    let d = did_settle _ _ _ _ _ _ _ _ _ _ _ _ _ _ _ c.loop-turn.invariant _ _ c.front-f.ensures _ c.free_row.ensures _ _ c.settle-tried.ensures _ c.in-Some.is in
+    let d = did_settle _ _ _ _ _ _ _ _ _ _ _ _ _ _ _ c.loop-turn.invariant _ _ c.front-f.ensures _ c.free_row.ensures _ _ c.settle.ensures _ c.in-Some.is in
     search (going_on, c.in_ok-c.was)
 
 pub contend-requires : goal.contend-requires
-contend-requires c = still_steps _ _ _ _ _ _ _ _ _ _ _ _ _ _ _ c.loop-turn.invariant _ _ c.front-f.ensures _ c.free_row.ensures _ _ c.settle-tried.ensures _ c.track-t.ensures c.in_default.is
+contend-requires c = still_steps _ _ _ _ _ _ _ _ _ _ _ _ _ _ _ c.loop-turn.invariant _ _ c.front-f.ensures _ c.free_row.ensures _ _ c.settle.ensures _ c.track.ensures c.in_default.is
 
 pub returns-in_err-c-2 : goal.returns-in_err-c-2
 returns-in_err-c-2 c =
-    let d = did_contend _ _ _ _ _ _ _ _ _ _ _ _ _ _ _ c.loop-turn.invariant _ _ c.front-f.ensures _ c.free_row.ensures _ _ c.settle-tried.ensures _ _ c.in_default.is c.contend.ensures in
+    let d = did_contend _ _ _ _ _ _ _ _ _ _ _ _ _ _ _ c.loop-turn.invariant _ _ c.front-f.ensures _ c.free_row.ensures _ _ c.settle.ensures _ _ c.in_default.is c.contend.ensures in
     rw (passed _ _ c.from_residual-in_err-c-2.ensures.1) (search (going_off, c.in_err-c-2.was))
 
 pub loop-turn-preserved : goal.loop-turn-preserved
 loop-turn-preserved c =
-    let d = did_contend _ _ _ _ _ _ _ _ _ _ _ _ _ _ _ c.loop-turn.invariant _ _ c.front-f.ensures _ c.free_row.ensures _ _ c.settle-tried.ensures _ _ c.in_default.is c.contend.ensures in
+    let d = did_contend _ _ _ _ _ _ _ _ _ _ _ _ _ _ _ c.loop-turn.invariant _ _ c.front-f.ensures _ c.free_row.ensures _ _ c.settle.ensures _ _ c.in_default.is c.contend.ensures in
     search (going_on, c.in_ok-c-2.was)
 
 pub returns : goal.returns

@@ -50,11 +50,10 @@ fn next_in(w: u32, p: u16) -> Option<u16>
     ensures { result ≡ next_use p (points_in (mention_in w)) }
 {
     let i = instruction_in(w);
-    point_from(at_use(w), points::use_point(i), p).or(point_from(
-        at_def(w),
-        points::def_point(i),
-        p,
-    ))
+    match point_from(at_use(w), points::use_point(i), p) {
+        Some(x) => Some(x),
+        None => point_from(at_def(w), points::def_point(i), p),
+    }
 }
 
 // The last point of a mention at or before p: the Def point, else the Use point.
@@ -62,11 +61,10 @@ fn last_in(w: u32, p: u16) -> Option<u16>
     ensures { result ≡ last_use p (points_in (mention_in w)) }
 {
     let i = instruction_in(w);
-    point_until(at_def(w), points::def_point(i), p).or(point_until(
-        at_use(w),
-        points::use_point(i),
-        p,
-    ))
+    match point_until(at_def(w), points::def_point(i), p) {
+        Some(x) => Some(x),
+        None => point_until(at_use(w), points::use_point(i), p),
+    }
 }
 
 // A mention stays at a split at p: a point of it is below p.
@@ -123,5 +121,10 @@ pub fn staying_mentions(mentions: &[u32], range: Range, p: u16) -> u16
     ensures { Kept (stays_below p) range mentions.now result }
 {
     let from = range.index as usize;
-    mentions[from..from + range.count as usize].partition_point(|w| stays(*w, p)) as u16
+    for n in 0..range.count {
+        if !stays(mentions[from + n as usize], p) {
+            return n;
+        }
+    }
+    range.count
 }

@@ -13,15 +13,15 @@ fn use_below(s: u32, p: u16) -> bool
     2 * (s as u64) < (p as u64)
 }
 
-// How many safepoints of a run stay at a split at p.
+// How many safepoints of a run stay at a split at p, as `staying_mentions` counts.
 pub fn staying_safepoints(safepoints: &[u32], range: Range, p: u16) -> u16
     requires { Ascending range safepoints.now }
     ensures { Kept (use_below p) range safepoints.now result }
 {
     let from = range.index as usize;
-    for n in 0..range.count {
-        if !use_below(safepoints[from + n as usize], p) {
-            return n;
+    for n in 0..range.count as usize {
+        if !use_below(safepoints[from + n], p) {
+            return n as u16;
         }
     }
     range.count

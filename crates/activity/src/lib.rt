@@ -88,7 +88,7 @@ pub fn update(
     }
 }
 
-// The same by value.
+// The same by value, for callers that hand the tracker on; where it can be lent, `update` copies nothing.
 pub fn tracked(
     mut t: Tracker,
     registers: &[u32],

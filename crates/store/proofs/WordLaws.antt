@@ -38,12 +38,6 @@ unfolding piece_in
 piece_made w0 w1 w2 w3 r p m s e f g h =
     record { is = rw (f, g, h, e); small = rw e (bits_lt 18 12 w0) }
 
--- the kind is 0, 1 or 2
-pub kind_small : (p : Place) → kind_of p < 4
-kind_small Nowhere = omega arith
-kind_small (Register r) = omega arith
-kind_small (Slot t) = omega arith
-
 -- a place is read back from its kind and number
 place_back : (p : Place) → place_of (kind_of p) (number_of p) ≡ p
 place_back Nowhere = sym (place_nowhere 0 0 (λ e. omega arith) (λ e. omega arith))

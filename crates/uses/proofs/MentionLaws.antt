@@ -1,6 +1,6 @@
 -- One mention word: its points, and the first and last of them.
 -- Assumes nothing.
-use Rattle.std.specs.Prelude.{Option}
+use Rattle.std.specs.Prelude.{Option, None, Some}
 use Rattle.std.specs.Option.{option_or}
 use Prim.Native.Nat.{ℕ, ◌≤◌, ◌<◌}
 use mathlib.Core.Path.{◌≡◌, refl, sym, ap, ◌∙◌}
@@ -38,13 +38,21 @@ module _ (w i p x y : ℕ) (u d : Bool) (n : Numbered w i) where
   last_both : x ≡ use_point i → y ≡ def_point i → u ≡ at_use (mention_in w) → d ≡ at_def (mention_in w) → last_use p (points_in (mention_in w)) ≡ option_or (last_use p (dot d y)) (last_use p (dot u x))
   last_both a b e f = ap (last_use p) (points_are a b e f) ∙ last_append y p (dot u x) (dot d y) (dot_below u x y (omega arith)) (dot_from d y y (omega arith))
 
--- the use of a word, from those of its two points
-module _ (w i p x y : ℕ) (u d : Bool) (r s t : Option ℕ) (n : Numbered w i) where
-  pub next_of_two : x ≡ use_point i → y ≡ def_point i → u ≡ at_use (mention_in w) → d ≡ at_def (mention_in w) → s ≡ next_use p (dot u x) → t ≡ next_use p (dot d y) → r ≡ option_or s t → r ≡ next_use p (points_in (mention_in w))
-  next_of_two a b e f g h k = k ∙ rw (g, h) (sym (next_both w i p x y u d n a b e f))
+-- the use of a word: that of its one point, else of the other
+module _ (w i p x y : ℕ) (u d : Bool) (n : Numbered w i) where
+  pub next_is_use : (z : ℕ) → x ≡ use_point i → u ≡ at_use (mention_in w) → Some z ≡ next_use p (dot u x) → Some z ≡ next_use p (points_in (mention_in w))
+  next_is_use z a e g = sym (next_both w i p x (def_point i) u (at_def (mention_in w)) n a refl e refl ∙ rw (← g))
 
-  pub last_of_two : x ≡ use_point i → y ≡ def_point i → u ≡ at_use (mention_in w) → d ≡ at_def (mention_in w) → s ≡ last_use p (dot d y) → t ≡ last_use p (dot u x) → r ≡ option_or s t → r ≡ last_use p (points_in (mention_in w))
-  last_of_two a b e f g h k = k ∙ rw (g, h) (sym (last_both w i p x y u d n a b e f))
+  pub next_is_def : (t : Option ℕ) → x ≡ use_point i → u ≡ at_use (mention_in w) → None ≡ next_use p (dot u x)
+      → y ≡ def_point i → d ≡ at_def (mention_in w) → t ≡ next_use p (dot d y) → t ≡ next_use p (points_in (mention_in w))
+  next_is_def t a e g b f h = h ∙ sym (next_both w i p x y u d n a b e f ∙ rw (← g))
+
+  pub last_is_def : (z : ℕ) → y ≡ def_point i → d ≡ at_def (mention_in w) → Some z ≡ last_use p (dot d y) → Some z ≡ last_use p (points_in (mention_in w))
+  last_is_def z b f g = sym (last_both w i p (use_point i) y (at_use (mention_in w)) d n refl b refl f ∙ rw (← g))
+
+  pub last_is_use : (t : Option ℕ) → y ≡ def_point i → d ≡ at_def (mention_in w) → None ≡ last_use p (dot d y)
+      → x ≡ use_point i → u ≡ at_use (mention_in w) → t ≡ last_use p (dot u x) → t ≡ last_use p (points_in (mention_in w))
+  last_is_use t b f g a e h = h ∙ sym (last_both w i p x y u d n a b e f ∙ rw (← g))
 
 or_false : (b : Bool) → b || false ≡ b
 or_false true = refl

@@ -2,7 +2,6 @@
 -- Assumes nothing.
 use Rattle.std.specs.Prelude.{Option, None, Some}
 use Rattle.std.specs.Option.{option_or}
-use Rattle.std.specs.List.Sorted.{IsPartitionedBy, IsPartitionPoint}
 use Prim.Native.Nat.{ℕ, zero, suc, ◌+◌, ◌-◌, ◌≤◌, ◌<◌}
 use mathlib.Core.Path.{◌≡◌, refl, sym, ap, ◌∙◌}
 use mathlib.Core.Bool.{Bool, true, false}
@@ -12,9 +11,7 @@ use native.Mathlib.Nat.{add-zero, eq-or-lt_of_le}
 use mathlib.Core.Logic.{⊎_elim}
 use native.Mathlib.Numerals.{add-one}
 use lib.ListN.{length, get_or, take, drop, length-take, length-drop}
-use lib.Seq.{drop-cons, take-suc, get_or-take, get_or-drop, length-take-le}
-use Rattle.std.proofs.lemmas.List.{get_or_default}
-use native.Mathlib.Decide.{dec_lt}
+use lib.Seq.{drop-cons, take-suc, get_or-take, get_or-drop}
 use borrow.Author.Tests.{ltb-false, le-ltb}
 use Rattle.words.specs.declared.Range.{Range}
 use Rattle.words.specs.Points.{use_point}
@@ -215,11 +212,11 @@ module _ (f : ℕ → Bool) (r : Range) (l : List ℕ) where
       fails : (j : ℕ) → r.index + n ≤ j → j < r.index + r.count → f (get_or l j 0) ≡ false
       fails j a b = ⊎_elim (λ i. rw i at (sym g ∙ t)) (λ i. s.falls (r.index + n) j (omega arith, omega arith) (omega arith, omega arith) i (sym g ∙ t)) (eq-or-lt_of_le a)
 
-  pub counting_ends : (n : ℕ) → Counting f r l n → r.count ≤ n → Kept f r l n
+  pub counting_ends : (n : ℕ) → Counting f r l n → r.count ≤ n → Kept f r l r.count
   unfolding count_of
   counting_ends n s h =
       let none : count_of f (rest r n l) ≡ 0 = rw (rest_none r l n h) in
-      record { is = omega (arith, s.is); most = s.upto }
+      record { is = omega (arith, s.is, s.upto); most = omega arith }
 
   counts : (n : ℕ) → r.index + r.count ≤ length l → Falls f r l → n ≤ r.count → ((k : ℕ) → k < n → f (get_or l (r.index + k) 0) ≡ true) → Counting f r l n
   counts zero i d h g = counting_starts i d
@@ -229,50 +226,6 @@ module _ (f : ℕ → Bool) (r : Range) (l : List ℕ) where
   pub count_first : (n : ℕ) → r.index + r.count ≤ length l → Falls f r l → n < r.count → ((k : ℕ) → k < n → f (get_or l (r.index + k) 0) ≡ true)
       → f (get_or l (r.index + n) 0) ≡ false → count_of f (part r l) ≡ n
   count_first n i d h g e = sym (counting_stops n false (counts n i d (omega arith) g) h (sym e) refl).is
-
-  -- a test that falls is true before one place of the run, and false from there on
-  abbrev words : List ℕ
-  words = take (r.index + r.count - r.index) (drop r.index l)
-
-  module _ (i : r.index + r.count ≤ length l) where
-    words_long : length words ≡ r.count
-    words_long = length-take-le _ (drop r.index l) (omega (arith, length-drop r.index l)) ∙ omega arith
-
-    words_at : (n d : ℕ) → n < r.count → get_or words n d ≡ get_or l (r.index + n) 0
-    words_at n d h = get_or_default words n d 0 (omega (arith, words_long)) ∙ get_or-take _ (drop r.index l) n 0 (omega arith) ∙ get_or-drop r.index l n 0
-
-  pub falls_parted : r.index + r.count ≤ length l → Falls f r l → IsPartitionedBy f words
-  falls_parted i g j k d u v e = go (f (get_or words j d)) refl
-    where
-      below : k < r.count
-      below = rw (words_long i) at v
-
-      go : (b : Bool) → f (get_or words j d) ≡ b → f (get_or words j d) ≡ true
-      go true h = h
-      go false h =
-          ⊎_elim (λ (q : j ≡ k). rw q e)
-          (λ (q : j < k).
-          let no : f (get_or words k d) ≡ false = rw (words_at i k d below) (g (r.index + j) (r.index + k) (omega arith, omega (arith, below)) (omega arith, omega (arith, below)) (omega arith) (rw (words_at i j d (omega (arith, below))) at h)) in
-          cc)
-          (eq-or-lt_of_le u)
-
-  -- and that place is how many entries pass
-  pub parted_kept : (n : ℕ) → r.index + r.count ≤ length l → Falls f r l → n ≤ length words → IsPartitionPoint (λ w. f w ≡ true) (λ w. f w ≡ false) words n → Kept f r l n
-  parted_kept n i g h p = go (dec_lt n r.count)
-    where
-      most : n ≤ r.count
-      most = rw (words_long i) at h
-
-      passed : (k : ℕ) → k < n → f (get_or l (r.index + k) 0) ≡ true
-      passed k u = rw (← words_at i k 0 (omega (arith, most))) (p.0 k 0 (omega arith) u)
-
-      go : Dec (n < r.count) → Kept f r l n
-      go (yes u) =
-          record {
-            is = sym (count_first n i g u passed (rw (← words_at i n 0 u) (p.1 n 0 (omega arith) (omega (arith, words_long i)))));
-            most = most;
-          }
-      go (no u) = counting_ends n (counts n i g most passed) (omega arith)
 
 -- the tests of a split fall
 pub mentions_fall : (p : ℕ) (r : Range) (l : List ℕ) → Rising r l → Falls (stays_below p) r l

@@ -1,4 +1,4 @@
-// A piece's safepoints: how many stay at a split, and the first. They ascend, so how many stay is found by halving.
+// A piece's safepoints: how many stay at a split, and the first. They ascend, so the walk stops at the first that answers.
 ghost use Rattle.std.specs.Prelude.{◌≡◌};
 ghost use Rattle.words.specs.Packed.{part};
 ghost use Rattle.uses.specs.Runs.{Ascending, Kept};
@@ -13,13 +13,18 @@ fn use_below(s: u32, p: u16) -> bool
     2 * (s as u64) < (p as u64)
 }
 
-// How many safepoints of a run stay at a split at p.
+// How many safepoints of a run stay at a split at p, as `staying_mentions` counts.
 pub fn staying_safepoints(safepoints: &[u32], range: Range, p: u16) -> u16
     requires { Ascending range safepoints.now }
     ensures { Kept (use_below p) range safepoints.now result }
 {
     let from = range.index as usize;
-    safepoints[from..from + range.count as usize].partition_point(|s| use_below(*s, p)) as u16
+    for n in 0..range.count as usize {
+        if !use_below(safepoints[from + n], p) {
+            return n as u16;
+        }
+    }
+    range.count
 }
 
 // The first safepoint of a run.

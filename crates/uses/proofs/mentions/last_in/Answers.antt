@@ -1,6 +1,11 @@
 -- `uses::mentions::last_in` meets its contract: the Use point is before the Def point.
-use Rattle.uses.proofs.MentionLaws.{last_of_two}
+use Rattle.std.proofs.Common.{false}
+use Rattle.uses.proofs.MentionLaws.{last_is_def, last_is_use}
 use Rattle.uses.proofs.mentions.last_in.Goals as goal
 
-pub returns : goal.returns
-returns c = search last_of_two
+pub returns-in-Some : goal.returns-in-Some
+returns-in-Some c = last_is_def _ _ _ 0 _ false _ c.instruction_in-i.ensures _ c.def_point.ensures c.at_def.ensures c.in-Some.ensures
+
+pub returns-in-None : goal.returns-in-None
+returns-in-None c =
+    last_is_use _ _ _ _ _ _ _ c.instruction_in-i.ensures _ c.def_point.ensures c.at_def.ensures c.in-None.ensures c.use_point.ensures c.at_use.ensures c.point_until-in-None.ensures

@@ -1,13 +1,15 @@
--- `uses::mentions::staying_mentions` meets its contract: the test is true up to one place of the run and false from there on, which is how many stay.
-use Rattle.std.proofs.Common.{rules}
-use Rattle.std.proofs.lemmas.List.Sorted.{IsPartitionPoint-from_clause}
-use Rattle.uses.specs.Mentions.{stays_below}
-use Rattle.uses.proofs.WalkLaws.{falls_parted, parted_kept, mentions_fall}
+-- `uses::mentions::staying_mentions` meets its contract: on a rising run the first that does not stay is the count.
+use Rattle.uses.proofs.WalkLaws.{counting_starts, counting_more, counting_stops, counting_ends, mentions_fall}
 use Rattle.uses.proofs.mentions.staying_mentions.Goals as goal
 
+pub loop-n-init : goal.loop-n-init
+loop-n-init c = search (counting_starts, mentions_fall)
+
+pub loop-n-preserved : goal.loop-n-preserved
+loop-n-preserved c = search counting_more
+
+pub returns-then-not-stays : goal.returns-then-not-stays
+returns-then-not-stays c = let h = c.if-not-stays.true in search counting_stops
+
 pub returns : goal.returns
-returns c =
-    let falls = mentions_fall c.args.p _ _ c.requires in
-    let parted = falls_parted (stays_below c.args.p) _ _ c.requires.inside falls in
-    let point = IsPartitionPoint-from_clause (stays_below c.args.p) _ _ c.partition_point.ensures.partitioned parted (λ a r q k. search rules) in
-    parted_kept (stays_below c.args.p) _ _ _ c.requires.inside falls c.partition_point.ensures.bound point
+returns c = search counting_ends

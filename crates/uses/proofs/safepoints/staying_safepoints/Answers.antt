@@ -1,13 +1,15 @@
--- `uses::safepoints::staying_safepoints` meets its contract: the test is true up to one place of the run and false from there on, which is how many stay.
-use Rattle.std.proofs.Common.{rules}
-use Rattle.std.proofs.lemmas.List.Sorted.{IsPartitionPoint-from_clause}
-use Rattle.uses.specs.Safepoints.{use_below}
-use Rattle.uses.proofs.WalkLaws.{falls_parted, parted_kept, safepoints_fall}
+-- `uses::safepoints::staying_safepoints` meets its contract: on a rising run the first that does not stay is the count.
+use Rattle.uses.proofs.WalkLaws.{counting_starts, counting_more, counting_stops, counting_ends, safepoints_fall}
 use Rattle.uses.proofs.safepoints.staying_safepoints.Goals as goal
 
+pub loop-n-init : goal.loop-n-init
+loop-n-init c = search (counting_starts, safepoints_fall)
+
+pub loop-n-preserved : goal.loop-n-preserved
+loop-n-preserved c = search counting_more
+
+pub returns-then-not-use_below : goal.returns-then-not-use_below
+returns-then-not-use_below c = let h = c.if-not-use_below.true in search counting_stops
+
 pub returns : goal.returns
-returns c =
-    let falls = safepoints_fall c.args.p _ _ c.requires in
-    let parted = falls_parted (use_below c.args.p) _ _ c.requires.inside falls in
-    let point = IsPartitionPoint-from_clause (use_below c.args.p) _ _ c.partition_point.ensures.partitioned parted (λ a r q k. search rules) in
-    parted_kept (use_below c.args.p) _ _ _ c.requires.inside falls c.partition_point.ensures.bound point
+returns c = search counting_ends

@@ -1,11 +1,12 @@
 // The public call, and how a run's end is written out.
 ghost use Rattle.rules.specs.Call.{Assigned, run_for};
+ghost use Rattle.rules.specs.Lent.{tables_of};
 ghost use Rattle.split.specs.Turns.{outcome_of};
 ghost use Rattle.tables.specs.Given.{tables};
 ghost use Rattle.assign.specs.Calling.{options, Allowed, Closing, Concluded};
 
 use crate::{entry, run};
-use rules::{Done, Mode, Refusal};
+use rules::{Done, Mode, Refusal, Tables};
 use store::{Counts, area};
 
 // The records of a run that is done; zeros for one that was refused.
@@ -36,34 +37,16 @@ fn conclude(
 // The run, on tables and room that passed the checks.
 fn assign_checked(
     mode: Mode,
-    instructions: u32,
-    classes: &[u32],
-    registers: &[u32],
-    fragments: &[u32],
-    intervals: &[u32],
-    mentions: &[u32],
-    safepoints: &[u32],
+    tables: &Tables,
     res: &mut [u32],
     work: &mut [u32],
     cap: usize,
 ) -> Result<Done, Refusal>
-    requires { Allowed (tables instructions classes.now registers.now fragments.now intervals.now mentions.now safepoints.now) cap work.old res.old }
-    ensures { Concluded (run_for mode (tables instructions classes.now registers.now fragments.now intervals.now mentions.now safepoints.now) cap) res.old res.new result }
+    requires { Allowed (tables_of tables.now) cap work.old res.old }
+    ensures { Concluded (run_for mode (tables_of tables.now) cap) res.old res.new result }
 {
-    let begun = area::load(intervals, work, cap);
-    let ended = run::run(
-        mode,
-        instructions,
-        classes,
-        registers,
-        fragments,
-        intervals,
-        mentions,
-        safepoints,
-        work,
-        cap,
-        begun,
-    );
+    let begun = area::load(tables.intervals, work, cap);
+    let ended = run::run(mode, tables, work, cap, begun);
     conclude(work, res, ended, cap)
 }
 
@@ -101,11 +84,10 @@ pub fn assign(
     )?;
     let mode = Mode {
         strategy: known,
-        partial_split: partial_split,
-        partial_split_near_end: partial_split_near_end,
+        partial_split,
+        partial_split_near_end,
     };
-    assign_checked(
-        mode,
+    let lent = Tables {
         instructions,
         classes,
         registers,
@@ -113,8 +95,6 @@ pub fn assign(
         intervals,
         mentions,
         safepoints,
-        res,
-        work,
-        cap,
-    )
+    };
+    assign_checked(mode, &lent, res, work, cap)
 }

@@ -9,16 +9,10 @@ ghost use Rattle.assign.specs.Looping.{Started, Turning, Fronted, Trackable, tra
 use crate::{Front, Start};
 use activity::{Tracker, ended};
 use choice::held;
-use rules::Pos;
+use rules::{Pos, Tables};
 use store::{Counts, state};
 use tables::read;
-
-const INTERVAL_WORDS: usize = 4;
-
-// The class is the topmost three bits of an interval's first word.
-const CLASS_AT: u32 = 536870912;
-
-const CLASSES: u32 = 8;
+use words::read as fields;
 
 // The record with the lowest start is popped, and what ended before it is dropped.
 fn start_of(work: &mut [u32], cap: usize, counts: Counts) -> Start
@@ -27,17 +21,12 @@ fn start_of(work: &mut [u32], cap: usize, counts: Counts) -> Start
     ensures { Started cap work.old work.new counts result }
 {
     let popped = state::pop(work, cap, counts);
-    let after = popped.counts;
-    let k = popped.record;
-    let q = state::piece(work, cap, after, k);
-    let start = q.start;
-    let interval = q.interval as usize;
-    let dropped = ended::drop_ended(work, cap, after, start);
+    let q = state::piece(work, cap, popped.counts, popped.record);
     Start {
-        record: k,
-        interval: interval,
-        start: start,
-        counts: dropped,
+        record: popped.record,
+        interval: q.interval as usize,
+        start: q.start,
+        counts: ended::drop_ended(work, cap, popped.counts, q.start),
     }
 }
 
@@ -46,80 +35,64 @@ fn class_index(intervals: &[u32], v: usize) -> usize
     requires { v < interval_count intervals.now }
     ensures { result ≡ (interval_at intervals.now v).class }
 {
-    let kind = intervals[v * INTERVAL_WORDS];
-    (kind / CLASS_AT % CLASSES) as usize
+    fields::class_of(intervals[v * fields::INTERVAL_WORDS]) as usize
 }
 
 // The next record, with its class.
-pub(crate) fn front(
-    classes: &[u32],
-    intervals: &[u32],
-    work: &mut [u32],
-    cap: usize,
-    counts: Counts,
-) -> Front
-    requires turning { Turning cap classes.now intervals.now work.old counts }
+pub(crate) fn front(tables: &Tables, work: &mut [u32], cap: usize, counts: Counts) -> Front
+    requires turning { Turning cap tables.now.classes.now tables.now.intervals.now work.old counts }
     requires queued_nonzero { 0 < counts.queued }
-    ensures { Fronted cap classes.now intervals.now work.old work.new counts result }
+    ensures { Fronted cap tables.now.classes.now tables.now.intervals.now work.old work.new counts result }
 {
     let begun = start_of(work, cap, counts);
-    let index = class_index(intervals, begun.interval);
-    let class = read::class_at(classes, index);
-    let after = begun.counts;
+    let index = class_index(tables.intervals, begun.interval);
     Front {
         record: begun.record,
-        index: index,
-        class: class,
+        index,
+        class: read::class_at(tables.classes, index),
         start: begun.start,
-        counts: after,
+        counts: begun.counts,
     }
 }
 
 // The tracker at the record's start.
-pub(crate) fn track(registers: &[u32], fragments: &[u32], tracker: Tracker, f: Front) -> Tracker
-    requires { Trackable registers.now fragments.now tracker f }
-    ensures { result ≡ tracked_to registers.now fragments.now tracker f }
+pub(crate) fn track(tables: &Tables, tracker: Tracker, f: Front) -> Tracker
+    requires { Trackable tables.now.registers.now tables.now.fragments.now tracker f }
+    ensures { result ≡ tracked_to tables.now.registers.now tables.now.fragments.now tracker f }
 {
-    let class = f.class;
-    let counts = f.counts;
-    let active = counts.active as u16;
     activity::tracked(
         tracker,
-        registers,
-        fragments,
-        class.first as usize,
-        class.count as usize,
+        tables.registers,
+        tables.fragments,
+        f.class.first as usize,
+        f.class.count as usize,
         f.start,
-        active,
+        f.counts.active as u16,
     )
 }
 
 // Step 2: the free-until positions of the record's class, in place of those in its row.
 pub(crate) fn free_row(
     row: [Pos; 64],
-    registers: &[u32],
-    fragments: &[u32],
+    tables: &Tables,
     work: &[u32],
     cap: usize,
     f: Front,
     tracker: Tracker,
 ) -> [Pos; 64]
-    requires { Faces cap registers.now fragments.now work.now f tracker }
-    ensures { FreeRow registers.now fragments.now (state_of cap work.now f.counts) (piece_of (state_of cap work.now f.counts) f.record) f.class.first f.class.count result }
+    requires { Faces cap tables.now.registers.now tables.now.fragments.now work.now f tracker }
+    ensures { FreeRow tables.now.registers.now tables.now.fragments.now (state_of cap work.now f.counts) (piece_of (state_of cap work.now f.counts) f.record) f.class.first f.class.count result }
 {
-    let counts = f.counts;
-    let class = f.class;
-    let q = state::piece(work, cap, counts, f.record);
+    let q = state::piece(work, cap, f.counts, f.record);
     held::free_until(
         row,
         work,
         cap,
-        counts,
+        f.counts,
         tracker,
-        registers,
-        fragments,
-        class.first as usize,
-        class.count as usize,
+        tables.registers,
+        tables.fragments,
+        f.class,
         q,
     )
 }

@@ -3,61 +3,47 @@ ghost use Rattle.std.specs.Prelude.{ℕ, ◌+◌, ◌≤◌, None};
 ghost use Rattle.rules.specs.Steps.{furthest};
 ghost use Rattle.choice.specs.Row.{pos_in};
 ghost use Rattle.store.specs.StateOf.{state_of};
-ghost use Rattle.steps.specs.Stepping.{stepping, Parting, Stepping, Tries, Did};
+ghost use Rattle.steps.specs.Stepping.{DidIn, PartingIn, stepping_of, SteppingIn, Tries};
 ghost use Rattle.assign.specs.Looping.{Takes, Looking, Past, Finishing, Finished, Settling, contended};
 
 use crate::Front;
 use activity::Tracker;
 use choice::positions;
-use rules::{Mode, Pos, Refusal, Strategy};
+use rules::{Mode, Pos, Refusal, Strategy, Tables};
 use steps::{allocate, blocked};
 use store::Counts;
 
 // The furthest register of the row is tried.
 fn take(
     mode: Mode,
-    mentions: &[u32],
-    safepoints: &[u32],
+    tables: &Tables,
     work: &mut [u32],
     cap: usize,
     f: Front,
     row: [Pos; 64],
 ) -> Option<Result<Counts, Refusal>>
-    requires parting { Parting cap mentions.now safepoints.now work.old f.counts f.record }
+    requires parting { PartingIn cap tables.now work.old f.counts f.record }
     requires count_bound { f.class.first + f.class.count ≤ 64 }
-    ensures { Tries cap mode mentions.now safepoints.now work.old work.new f.counts f.record (furthest (pos_in row) f.class.scratch f.class.first f.class.count None) result }
+    ensures { Tries cap mode tables.now.mentions.now tables.now.safepoints.now work.old work.new f.counts f.record (furthest (pos_in row) f.class.scratch f.class.first f.class.count None) result }
 {
-    let counts = f.counts;
-    let class = f.class;
-    let choice = positions::furthest_of(
-        row,
-        class.first as usize,
-        class.count as usize,
-        class.scratch as usize,
-    );
-    allocate::try_allocate_reg(
-        mode, mentions, safepoints, work, cap, counts, f.record, choice,
-    )
+    let choice = positions::furthest_of(row, f.class);
+    allocate::try_allocate_reg(mode, tables, work, cap, f.counts, f.record, choice)
 }
 
 // Step 5, where steps 2 to 4 went on.
 fn finish(
     strategy: Strategy,
-    intervals: &[u32],
-    mentions: &[u32],
-    safepoints: &[u32],
+    tables: &Tables,
     work: &mut [u32],
     cap: usize,
     k: usize,
     taken: Result<Counts, Refusal>,
 ) -> Result<Counts, Refusal>
-    requires { Finishing cap intervals.now mentions.now safepoints.now work.old k taken }
-    ensures { Finished cap strategy intervals.now mentions.now safepoints.now work.old work.new k taken result }
+    requires { Finishing cap tables.now.intervals.now tables.now.mentions.now tables.now.safepoints.now work.old k taken }
+    ensures { Finished cap strategy tables.now.intervals.now tables.now.mentions.now tables.now.safepoints.now work.old work.new k taken result }
 {
     let after = taken?;
-    safepoints::maybe_handle_safepoints(
-        strategy, intervals, mentions, safepoints, work, cap, after, k,
-    )
+    safepoints::maybe_handle_safepoints(strategy, tables, work, cap, after, k)
 }
 
 // Nothing is left for step 5 to do.
@@ -80,78 +66,37 @@ fn past(
 // Steps 2, 3 and 5; or step 4 is due.
 pub(crate) fn settle(
     mode: Mode,
-    intervals: &[u32],
-    mentions: &[u32],
-    safepoints: &[u32],
+    tables: &Tables,
     work: &mut [u32],
     cap: usize,
     f: Front,
     row: [Pos; 64],
 ) -> Option<Result<Counts, Refusal>>
-    requires { Takes cap intervals.now mentions.now safepoints.now work.old f }
-    ensures { Settling cap mode intervals.now mentions.now safepoints.now work.old work.new f row result }
+    requires { Takes cap tables.now.intervals.now tables.now.mentions.now tables.now.safepoints.now work.old f }
+    ensures { Settling cap mode tables.now.intervals.now tables.now.mentions.now tables.now.safepoints.now work.old work.new f row result }
 {
-    let taken = take(mode, mentions, safepoints, work, cap, f, row)?;
+    let taken = take(mode, tables, work, cap, f, row)?;
     let k = f.record;
     // asked here, so that most pops go on without a call
-    if past(intervals, work, cap, k, taken) {
+    if past(tables.intervals, work, cap, k, taken) {
         return Some(taken);
     }
-    Some(finish(
-        mode.strategy,
-        intervals,
-        mentions,
-        safepoints,
-        work,
-        cap,
-        k,
-        taken,
-    ))
+    Some(finish(mode.strategy, tables, work, cap, k, taken))
 }
 
 // Steps 4 and 5.
 pub(crate) fn contend(
     mode: Mode,
-    instructions: u32,
-    classes: &[u32],
-    registers: &[u32],
-    fragments: &[u32],
-    intervals: &[u32],
-    mentions: &[u32],
-    safepoints: &[u32],
+    tables: &Tables,
     work: &mut [u32],
     cap: usize,
     f: Front,
     tracker: Tracker,
 ) -> Result<Counts, Refusal>
-    requires { Stepping cap classes.now registers.now fragments.now intervals.now mentions.now safepoints.now work.old f.counts tracker f.record }
-    ensures { Did cap mentions.now safepoints.now work.old work.new f.counts result (contended (stepping instructions mode classes.now registers.now fragments.now intervals.now mentions.now safepoints.now cap) (state_of cap work.old f.counts) f.record) }
+    requires { SteppingIn cap tables.now work.old f.counts tracker f.record }
+    ensures { DidIn cap tables.now work.old work.new f.counts result (contended (stepping_of mode tables.now cap) (state_of cap work.old f.counts) f.record) }
 {
-    let counts = f.counts;
     let k = f.record;
-    let taken = blocked::allocate_blocked_reg(
-        mode,
-        instructions,
-        classes,
-        registers,
-        fragments,
-        intervals,
-        mentions,
-        safepoints,
-        work,
-        cap,
-        counts,
-        tracker,
-        k,
-    );
-    finish(
-        mode.strategy,
-        intervals,
-        mentions,
-        safepoints,
-        work,
-        cap,
-        k,
-        taken,
-    )
+    let taken = blocked::allocate_blocked_reg(mode, tables, work, cap, f.counts, tracker, k);
+    finish(mode.strategy, tables, work, cap, k, taken)
 }

@@ -65,21 +65,7 @@ fn granted(
     let longest = choice?;
     match longest.pos {
         Pos::Blocked => None,
-<<<<<<< HEAD
         Pos::At(a) => granted_until(mode, tables, work, cap, counts, k, longest.register, a),
-=======
-        Pos::At(a) => granted_until(
-            mode,
-            mentions,
-            safepoints,
-            work,
-            cap,
-            counts,
-            k,
-            longest.register,
-            a,
-        ),
->>>>>>> 2370ef5667a1c2f1b9fecbb5f37bd3d04addc0af
         Pos::Never => Some(Grant::Whole(longest.register)),
     }
 }

@@ -3,8 +3,8 @@
 use Rattle.assign.proofs.FrontLaws.{front_class, fronts}
 use Rattle.assign.proofs.fronts.front.Goals as goal
 
-pub class_at-class-requires : goal.class_at-class-requires
-class_at-class-requires c = search front_class
+pub class_at-requires : goal.class_at-requires
+class_at-requires c = search front_class
 
 pub returns : goal.returns
 returns c = search fronts

@@ -4,4 +4,4 @@ use Rattle.assign.proofs.RunLaws.{Going}
 use Rattle.assign.proofs.run.run.Given as goal
 
 abbrev pub invariant-loop-turn : goal.invariant-loop-turn
-invariant-loop-turn l = Going l.instructions l.mode l.classes l.registers l.fragments l.intervals l.mentions l.safepoints l.cap l.initial.work l.work l.c l.t l.free l.turn
+invariant-loop-turn l = Going l.tables.instructions l.mode l.tables.classes.now l.tables.registers.now l.tables.fragments.now l.tables.intervals.now l.tables.mentions.now l.tables.safepoints.now l.cap l.initial.work l.work l.c l.t l.free l.turn

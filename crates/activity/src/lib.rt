@@ -87,20 +87,3 @@ pub fn update(
         t.ahead = left(t.ahead, r, f, stop);
     }
 }
-
-// The same by value, for callers that hand the tracker on; where it can be lent, `update` copies nothing.
-pub fn tracked(
-    mut t: Tracker,
-    registers: &[u32],
-    fragments: &[u32],
-    first: usize,
-    count: usize,
-    start: u16,
-    active: u16,
-) -> Tracker
-    requires { Ready registers.now fragments.now t first count }
-    ensures { result ≡ advanced registers.now fragments.now t first count start active }
-{
-    update(&mut t, registers, fragments, first, count, start, active);
-    t
-}

@@ -38,12 +38,7 @@ fn class_index(intervals: &[u32], v: usize) -> usize
 }
 
 // The next record, with its class.
-pub(crate) fn front(
-    tables: &Tables,
-    work: &mut [u32],
-    cap: usize,
-    counts: Counts,
-) -> Front
+pub(crate) fn front(tables: &Tables, work: &mut [u32], cap: usize, counts: Counts) -> Front
     requires turning { Turning cap tables.now.classes.now tables.now.intervals.now work.old counts }
     requires queued_nonzero { 0 < counts.queued }
     ensures { Fronted cap tables.now.classes.now tables.now.intervals.now work.old work.new counts result }

@@ -31,11 +31,7 @@ pub(crate) fn range_good<F: Fn(usize) -> Range>(range_at: F, n: usize, len: usiz
     ensures { (ranges : ℕ → _) → ((j : ℕ) (r : _) → j < n → F.post range_at j r → r ≡ ranges j) → result ≡ range_good ranges n len k }
 {
     let range = range_at(k);
-    let before = if k == 0 {
-        0
-    } else {
-        range_at(k - 1).end()
-    };
+    let before = if k == 0 { 0 } else { range_at(k - 1).end() };
     let end = range.end();
     range.index as usize == before && end <= len && (k + 1 < n || end == len)
 }

@@ -7,7 +7,7 @@ use Rattle.steps.proofs.weighing.weigh.Goals.{in_default-via-in-Some+else-lt, in
 pub returns-in_default : goal.returns-in_default
 returns-in_default c =
     elim c.in_default.branch [
-      in_default-via-in-Some+else-lt w ↦ let i = rw w.in-Some.furthest-is at w.lt.ensures in search weighed_own
+      | in_default-via-in-Some+else-lt w ↦ let i = rw w.in-Some.furthest-is at w.lt.ensures in search weighed_own
       | in_default-via-in_default w ↦ search all_blocked
     ]
 

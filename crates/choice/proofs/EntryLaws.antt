@@ -13,7 +13,7 @@ use Rattle.std.specs.Prelude.{None, min}
 use Rattle.rules.specs.Steps.{furthest, pos_of}
 use Rattle.rules.specs.declared.RegPos.{RegPos}
 use Rattle.choice.specs.Row.{pos_in, better, is_never, no_entry, entry_at, furthest_entry}
-use Rattle.choice.proofs.FurthestLaws.{Weighed, weighed_first, weighed_next, Scanned, scanned_ends, scanned_never}
+use Rattle.choice.proofs.FurthestLaws.{Weighed, weighed_first, weighed_next, Scanned, scanned_never}
 
 -- what is left of the scan from i on, with the best so far, is the whole scan
 pub record Reading (es : List RegPos) (scratch count : ℕ) (start best : Choice) (i : ℕ) : Type 0 where
@@ -39,10 +39,6 @@ module _ (row : List Pos) (scratch first count stop r : ℕ) (best : Choice) (s 
   scanned_more =
       let w : Weighed (pos_in row) scratch stop (furthest (pos_in row) scratch first count None) (r + 1) (better scratch best r (pos_in row r)) = weighed_first (pos_in row) scratch stop r best _ h s.is in
       record { is = rw (e, f0, f1, f2, f3) (weighed_next (weighed_next (weighed_next w r1 e1 (r + 2) (omega arith)) r2 e2 (r + 3) (omega arith)) r3 e3 (r + 4) (omega arith)).is }
-
-  -- to its end, where these are the last
-  pub scanned_done : stop ≤ r + 4 → best' ≡ furthest (pos_in row) scratch first count None
-  scanned_done l = scanned_ends scanned_more l
 
   -- and where the best is never
   pub scanned_stops : (t : Bool) → t ≡ is_never (pos_of best') → t ≡ true → best' ≡ furthest (pos_in row) scratch first count None

@@ -63,7 +63,9 @@ pub fn furthest_of(row: [Pos; REGISTERS], class: Class) -> Option<RegPos>
     let mut best = None;
     let first = class.first as usize;
     let stop = first + class.count as usize;
-    for r in (first..stop).step_by(4) {
+    let mut r = first;
+    // `step_by(4)` was tried: it proves, and the scan takes 6 in a hundred more instructions
+    while r < stop {
         let last = stop - 1;
         let entries = [
             entry_of(&row, r),
@@ -75,6 +77,7 @@ pub fn furthest_of(row: [Pos; REGISTERS], class: Class) -> Option<RegPos>
         if is_never(best) {
             return best;
         }
+        r += 4;
     }
     best
 }

@@ -115,8 +115,7 @@ fn answer(verdict: Result<(), Broken>, count: u32, total: u32) -> Result<Done, R
 // Does nothing. Of a slice in a struct behind a reference the check forgets that its numbers are words.
 fn are_words(words: &[u32])
     ensures { (i : ℕ) → get_or words.now i 0 < 4294967296 }
-{
-}
+{}
 
 // 3 for a claim that is too long or beyond its slice, 3 to 8 for tables that are not sound, 14 with the lowest broken rule, else 1 with the claimed count and total.
 pub fn check(tables: &Tables, claim: &Claim) -> Result<Done, Refusal>

@@ -4,7 +4,7 @@ ghost use Rattle.checker_rules.specs.Says.{Says};
 ghost use Rattle.checker_rules.specs.Usable.{Usable, Suits, Classes};
 ghost use Rattle.checker_rules.specs.Decides.{Decides3};
 
-use crate::entries::{Seats};
+use crate::entries::Seats;
 use words::{IN_REGISTER, read};
 
 fn usable(w: u32, number: u16) -> bool

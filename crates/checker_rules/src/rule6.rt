@@ -8,7 +8,7 @@ ghost use Rattle.checker_rules.specs.Slots.{Sized, Placed, Unowned, Owned, PutBy
 ghost use Rattle.checker_rules.specs.Decides.{Decides6};
 
 use crate::entries::{MOST_INTERVALS, Seats};
-use words::{IN_SLOT};
+use words::IN_SLOT;
 
 // The size that a logarithm below 4 stands for: 1, 2, 4, 8.
 fn size_of(log: u16) -> u32

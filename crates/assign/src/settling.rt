@@ -26,7 +26,13 @@ fn take(
     requires count_bound { f.class.first + f.class.count ≤ 64 }
     ensures { Tries cap mode tables.now.mentions.now tables.now.safepoints.now work.old work.new f.counts f.record (furthest (pos_in row) f.class.scratch f.class.first f.class.count None) result }
 {
-    let choice = positions::furthest_of(row, f.class);
+    let class = f.class;
+    let choice = positions::furthest_of(
+        row,
+        class.first as usize,
+        class.count as usize,
+        class.scratch as usize,
+    );
     allocate::try_allocate_reg(mode, tables, work, cap, f.counts, f.record, choice)
 }
 

@@ -4,7 +4,7 @@ use std::fmt;
 
 impl Key {
     // The word that the line begins with.
-    pub fn word(self) -> &'static str {
+    pub(crate) fn word(self) -> &'static str {
         match self {
             Key::Case => "case",
             Key::Opts => "opts",

@@ -5,7 +5,6 @@ ghost use Rattle.choice.specs.Row.{better, entry_at, furthest_entry, is_never, p
 
 use activity::REGISTERS;
 use rules::{Pos, RegPos};
-use words::Class;
 
 // The position of the best so far: blocked, where there is none.
 fn pos_of(best: Option<RegPos>) -> Pos
@@ -15,10 +14,10 @@ fn pos_of(best: Option<RegPos>) -> Pos
 }
 
 // The register of `e`, where its position lies above the best so far and it is not scratch.
-fn better_of(best: Option<RegPos>, e: RegPos, scratch: u16) -> Option<RegPos>
+fn better_of(best: Option<RegPos>, e: RegPos, scratch: usize) -> Option<RegPos>
     ensures { result ≡ better scratch best e.register e.pos }
 {
-    if e.register != scratch && pos_of(best) < e.pos {
+    if e.register as usize != scratch && pos_of(best) < e.pos {
         Some(e)
     } else {
         best
@@ -26,7 +25,7 @@ fn better_of(best: Option<RegPos>, e: RegPos, scratch: u16) -> Option<RegPos>
 }
 
 // The furthest of a lent slice and the best so far, the first of them on ties, never scratch.
-fn furthest_in(entries: &[RegPos], scratch: u16, start: Option<RegPos>) -> Option<RegPos>
+fn furthest_in(entries: &[RegPos], scratch: usize, start: Option<RegPos>) -> Option<RegPos>
     ensures { result ≡ furthest_entry entries.now scratch 0 (length entries.now) start }
 {
     let mut best = start;
@@ -56,13 +55,18 @@ fn entry_of(row: &[Pos; REGISTERS], r: usize) -> RegPos
 
 // The furthest of a class's registers, the lowest of them on ties, never scratch.
 // Four at a time: past the last register the last one stands again, which changes nothing.
-pub fn furthest_of(row: [Pos; REGISTERS], class: Class) -> Option<RegPos>
-    requires { class.first + class.count ≤ 64 }
-    ensures { result ≡ furthest (pos_in row) class.scratch class.first class.count None }
+// The class's three numbers are apart, since any number at all may be scratch.
+pub fn furthest_of(
+    row: [Pos; REGISTERS],
+    first: usize,
+    count: usize,
+    scratch: usize,
+) -> Option<RegPos>
+    requires { first + count ≤ 64 }
+    ensures { result ≡ furthest (pos_in row) scratch first count None }
 {
     let mut best = None;
-    let first = class.first as usize;
-    let stop = first + class.count as usize;
+    let stop = first + count;
     let mut r = first;
     // `step_by(4)` was tried: it proves, and the scan takes 6 in a hundred more instructions
     while r < stop {
@@ -73,7 +77,7 @@ pub fn furthest_of(row: [Pos; REGISTERS], class: Class) -> Option<RegPos>
             entry_of(&row, (r + 2).min(last)),
             entry_of(&row, (r + 3).min(last)),
         ];
-        best = furthest_in(&entries, class.scratch, best);
+        best = furthest_in(&entries, scratch, best);
         if is_never(best) {
             return best;
         }

@@ -58,7 +58,13 @@ fn furthest_use(row: [Pos; REGISTERS], kind: NumberedClass) -> Option<RegPos>
 {
     let mut next = rows::never_rows();
     next[kind.number] = row;
-    positions::furthest_of(next[kind.number], kind.class)
+    let class = kind.class;
+    positions::furthest_of(
+        next[kind.number],
+        class.first as usize,
+        class.count as usize,
+        class.scratch as usize,
+    )
 }
 
 // The holders' next uses, and the furthest of them weighed against the first use f.

@@ -2,7 +2,7 @@
 -- Assumes nothing.
 use Rattle.rules.specs.Answers.{fine, Answer, Check, number}
 use Rattle.rules.specs.Answers as answers
-use Rattle.std.specs.Prelude.{Option, None, Some, Ok, Err}
+use Rattle.std.specs.Prelude.{None, Some, Ok, Err}
 use Prim.Native.Nat.{ℕ, ◌+◌, ◌*◌, ◌≤◌, ◌<◌}
 use mathlib.Core.Path.{◌≡◌, refl, sym, ap, ◌∙◌}
 use mathlib.Core.Bool.{Bool, true, false, ◌||◌}
@@ -12,7 +12,7 @@ use lib.ListN.{length}
 use lib.Dec.{ltb}
 use mir.Val.{Fits}
 use mir.Syntax.{w32}
-use borrow.Author.Tests.{lt-ltb, le-ltb, ltb-false, ne_eqb}
+use borrow.Author.Tests.{lt-ltb, le-ltb, ltb-false}
 use Rattle.words.specs.Choose.{choose}
 use Rattle.words.specs.Packed.{interval_count, record_words}
 use Rattle.rules.specs.declared.Options.{Options}
@@ -36,7 +36,7 @@ use Rattle.store.proofs.StateLaws.{records_are}
 use Rattle.split.specs.Turns.{Turn}
 use Rattle.split.specs.Turns.{outcome_of}
 use Rattle.tables.specs.Given.{tables}
-use Rattle.assign.specs.Calling.{options, Allowed, Begun, Ran, Ends, done, refused, Closing, Concluded}
+use Rattle.assign.specs.Calling.{Allowed, Begun, Ran, Ends, done, refused, Closing, Concluded}
 
 -- ---- the strategy: what a number that is m names, and a number that is none of the seven
 -- ---- 3 to 8, then 9

@@ -5,7 +5,6 @@ use Rattle.checker.proofs.VerdictLaws.{over_count, over_words, tables_refused, a
 use Rattle.checker.proofs.ReadyLaws.{ready}
 use Rattle.rules.proofs.Accepted.{accepted}
 use mathlib.Core.Path.{sym, ◌∙◌}
-use native.Mathlib.Omega.{arith}
 use Rattle.checker.proofs.check.Goals as goal
 use Rattle.checker.proofs.check.Goals.{then-claim-gt-MOST_RECORDS-via-then-claim-gt-MOST_RECORDS, then-claim-gt-MOST_RECORDS-via-else-claim-gt-MOST_RECORDS+then-claim-count}
 

@@ -5,7 +5,7 @@ use Rattle.choice.proofs.FurthestLaws.{Scanned}
 use Rattle.choice.proofs.positions.furthest_of.Given as goal
 
 abbrev pub invariant-loop-r : goal.invariant-loop-r
-invariant-loop-r l = Scanned l.fn.row l.fn.class.scratch l.fn.class.first l.fn.class.count l.stop l.r l.best
+invariant-loop-r l = Scanned l.fn.row l.fn.scratch l.fn.first l.fn.count l.stop l.r l.best
 
 abbrev pub decreases-loop-r : goal.decreases-loop-r
 decreases-loop-r l = l.stop - l.r

@@ -1,4 +1,5 @@
 // Words read: the fields of each table's entry, most significant first, by its words and by its index in its table.
+// Each entry's reader has a name of its own: `From<u32>` would not say as which entry a word is read, and `Range` and `Fragment` are packed alike.
 ghost use Rattle.std.specs.Prelude.{◌≡◌, ◌+◌, ◌*◌, ◌<◌, ◌≤◌, length, get_or};
 ghost use Rattle.words.specs.Field.{bits, flag};
 ghost use Rattle.words.specs.Packed.{class_in, class_at, range_in, register_at, fragment_in, interval_in, interval_at, interval_count, interval_words, mention_in, record_in};

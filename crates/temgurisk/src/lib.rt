@@ -50,17 +50,19 @@ fn refused(refusal: Refusal) -> Reply
 }
 
 // The four words of an answer.
-pub fn reply_of(answer: Result<Done, Refusal>) -> Reply
-    ensures { result ≡ reply_of answer }
-{
-    match answer {
-        Ok(done) => Reply {
-            number: 1,
-            place: NOWHERE as u32,
-            count: done.count,
-            total: done.total,
-        },
-        Err(refusal) => refused(refusal),
+impl From<Result<Done, Refusal>> for Reply {
+    ghost from_gives = { λ answer reply. reply ≡ reply_of answer };
+
+    fn from(answer: Result<Done, Refusal>) -> Reply {
+        match answer {
+            Ok(done) => Reply {
+                number: 1,
+                place: NOWHERE as u32,
+                count: done.count,
+                total: done.total,
+            },
+            Err(refusal) => refused(refusal),
+        }
     }
 }
 
@@ -73,12 +75,12 @@ pub fn temgurisk_assign(
 ) -> Reply
     ensures { Replied options (tables_of tables.now) res.old res.new work.old work.new result }
 {
-    reply_of(assign::call::assign(options, tables, res, work))
+    assign::call::assign(options, tables, res, work).into()
 }
 
 // `checker::check`, which writes nothing.
 pub fn temgurisk_check(tables: &Tables, claim: &Claim) -> Reply
     ensures { Reviewed (tables_of tables.now) (claim_of claim.now) result }
 {
-    reply_of(checker::check(tables, claim))
+    checker::check(tables, claim).into()
 }

@@ -32,8 +32,8 @@ fn line(name: &[u8], reply: Reply, words: &[u32], out: &mut [u8]) {
     sink.end_line();
 }
 
-// The tables of the case: so many words of each lent one.
-fn tables_of<'t>(case: Case, lent: &'t cases::Tables) -> Tables<'t> {
+// The tables of the case: so many words of each of those that are lent.
+fn tables_of<'t>(case: Case, lent: &Tables<'t>) -> Tables<'t> {
     let counts = case.counts;
     Tables {
         instructions: case.options.instructions,
@@ -47,7 +47,7 @@ fn tables_of<'t>(case: Case, lent: &'t cases::Tables) -> Tables<'t> {
 }
 
 // The assigner's answer, in the room that the case asks for.
-fn assigned(case: Case, lent_tables: &cases::Tables, res: &mut [u32], work: &mut [u32]) -> Reply {
+fn assigned(case: Case, tables: &Tables, res: &mut [u32], work: &mut [u32]) -> Reply {
     let options = Options {
         strategy: case.options.strategy,
         partial_split: case.options.partial_split,
@@ -56,22 +56,22 @@ fn assigned(case: Case, lent_tables: &cases::Tables, res: &mut [u32], work: &mut
     let space = lent(case.room, res.len(), work.len());
     temgurisk::temgurisk_assign(
         options,
-        &tables_of(case, lent_tables),
+        &tables_of(case, tables),
         &mut res[..space.result],
         &mut work[..space.work],
     )
 }
 
-// The checker's answer to a claim, the first n words: its count and total, and the claimed words.
-fn checked(case: Case, lent_tables: &cases::Tables, n: usize) -> Reply
-    requires { (2 ≤ n) × (n ≤ length lent_tables.now.claim.now) }
+// The checker's answer to a claim: its count and total, and the claimed words.
+fn checked(case: Case, tables: &Tables, claim: &[u32]) -> Reply
+    requires { 2 ≤ length claim.now }
 {
     let claim = Claim {
-        words: &lent_tables.claim[CLAIM_NUMBERS..n],
-        count: lent_tables.claim[0],
-        total: lent_tables.claim[1],
+        words: &claim[CLAIM_NUMBERS..],
+        count: claim[0],
+        total: claim[1],
     };
-    temgurisk::temgurisk_check(&tables_of(case, lent_tables), &claim)
+    temgurisk::temgurisk_check(&tables_of(case, tables), &claim)
 }
 
 // Assigns, and writes the answer in words or for a person. The words that follow it are the records of a done assignment.
@@ -79,7 +79,7 @@ fn assign_case(
     way: Way,
     name: &[u8],
     case: Case,
-    tables: &cases::Tables,
+    tables: &Tables,
     res: &mut [u32],
     work: &mut [u32],
     out: &mut [u8],
@@ -98,8 +98,8 @@ fn assign_case(
 }
 
 // Checks the claim. A case without one is told as one that cannot be read, at the line before the next: that of the word `end`, where a claim was due.
-fn check_case(text: &[u8], case: Case, tables: &cases::Tables, out: &mut [u8])
-    requires { Named (length text.now) (length tables.now.claim.now) case }
+fn check_case(text: &[u8], case: Case, tables: &Tables, claim: &[u32], out: &mut [u8])
+    requires { Named (length text.now) (length claim.now) case }
 {
     match case.claim {
         None => {
@@ -112,26 +112,27 @@ fn check_case(text: &[u8], case: Case, tables: &cases::Tables, out: &mut [u8])
             trouble::tell(text, trouble, out);
         }
         Some(n) => {
-            let reply = checked(case, tables, n);
+            let reply = checked(case, tables, &claim[..n]);
             line(&text[case.name.from..case.name.to], reply, &[], out);
         }
     }
 }
 
-// Answers one case.
+// Answers one case, whose words are the first ones of the lent tables and of the lent claim.
 pub fn answer(
     way: Way,
     text: &[u8],
     case: Case,
-    tables: &cases::Tables,
+    tables: &Tables,
+    claim: &[u32],
     res: &mut [u32],
     work: &mut [u32],
     out: &mut [u8],
 )
-    requires { Named (length text.now) (length tables.now.claim.now) case }
+    requires { Named (length text.now) (length claim.now) case }
 {
     match way {
-        Way::Check => check_case(text, case, tables, out),
+        Way::Check => check_case(text, case, tables, claim, out),
         Way::Assign | Way::Show => {
             let name = &text[case.name.from..case.name.to];
             assign_case(way, name, case, tables, res, work, out);

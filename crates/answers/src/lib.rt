@@ -14,7 +14,7 @@ pub const STDOUT_FILENO: i32 = 1;
 
 pub const STDERR_FILENO: i32 = 2;
 
-// What is done with each case.
+// What is done with each case. The ways are these three, and each writes other lines, so it is an enum and no closure.
 #[derive(Clone, Copy, Debug, PartialEq, Eq)]
 pub enum Way {
     // Assign, and write the answer's words.

@@ -4,7 +4,7 @@ use crate::meaning::Meaning;
 use crate::sink::Sink;
 use std::fmt::Write;
 use temgurisk::Reply;
-use words::Record;
+use words::{IN_REGISTER, IN_SLOT, Record};
 
 const DONE: u32 = 1;
 
@@ -20,8 +20,8 @@ fn put_record(sink: &mut Sink, r: Record) {
     } = r;
     let _ = write!(sink, "  interval {interval}  points {first}..{last}");
     let _ = match kind {
-        1 => write!(sink, "  register {number}"),
-        2 => write!(sink, "  slot {number}"),
+        IN_REGISTER => write!(sink, "  register {number}"),
+        IN_SLOT => write!(sink, "  slot {number}"),
         _ => Ok(()),
     };
     sink.end_line();

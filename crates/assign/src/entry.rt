@@ -1,4 +1,4 @@
-// What is settled before the run: the strategy by its number, the room, and the checks 3 to 9 in order.
+// What is settled before the run: the capacity, the room, and the checks 3 to 9 in order.
 ghost use Rattle.std.specs.Prelude.{◌≡◌, ℕ, ◌≤◌, min};
 ghost use Rattle.words.specs.Packed.{interval_count};
 ghost use Rattle.rules.specs.Room.{capacity, check_room};

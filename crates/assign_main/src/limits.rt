@@ -25,7 +25,7 @@ const OPTIONS: Options = Options {
     partial_split_near_end: false,
 };
 
-// What follows a call.
+// What follows a call: one of two things that are known here, so an enum and no closure over the areas that the call fills.
 #[derive(Clone, Copy, Debug, PartialEq, Eq)]
 enum Then {
     Stop,

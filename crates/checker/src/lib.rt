@@ -112,7 +112,8 @@ fn answer(verdict: Result<(), Broken>, count: u32, total: u32) -> Result<Done, R
     }
 }
 
-// Does nothing. Of a slice in a struct behind a reference the check forgets that its numbers are words.
+// Does nothing when it runs: it tells the check that the numbers of a slice are words, which it forgets of a slice in a struct behind a reference.
+// The searches in mentions and in fragments lean on it.
 fn are_words(words: &[u32])
     ensures { (i : ℕ) → get_or words.now i 0 < 4294967296 }
 {}

@@ -1,4 +1,4 @@
-// The entries that the rules read: the records of a claim, interval v of a table, and where a range ends; and the numbers that more than one rule goes by.
+// The entries that the rules read: the records of a claim, and interval v of a table; and the numbers that more than one rule goes by.
 ghost use Rattle.std.specs.Prelude.{◌≡◌, ℕ, ◌+◌, ◌*◌, ◌<◌, ◌≤◌, length};
 ghost use Rattle.words.specs.Packed.{interval_count};
 ghost use Rattle.checker_rules.specs.Entries.{Shown, Given};

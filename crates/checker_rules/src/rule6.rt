@@ -1,5 +1,5 @@
 // Rule 6: a virtual register has one slot, a multiple of its size; slot extents of two do not meet; the total is the greatest slot plus size, or 0.
-// `slots` has each interval's slot plus one, 0 where it has none yet; `owner` has for each slot unit the interval that has it plus one, 0 where nobody has. Only this file knows that. An `Option` in each entry would take twice the room, of memory that is fixed.
+// `slots` has each interval's slot plus one, 0 where it has none yet; `owner` has for each slot unit the interval that has it plus one, 0 where nobody has. Only this file knows that. In `owner` an `Option` in each entry would take twice the room, of memory that is fixed; `slots` follows it.
 ghost use Rattle.std.specs.Prelude.{◌≡◌, ℕ, ◌+◌, ◌*◌, ◌<◌, ◌≤◌, length, get_or};
 ghost use Rattle.words.specs.Packed.{interval_count};
 ghost use Rattle.checker_rules.specs.Says.{Says};

@@ -218,12 +218,13 @@ grant_part r None = None
 abbrev pub grant_until : Mode → List ℕ → Piece → ℕ → ℕ → Option Grant
 grant_until m ms q r a = choose (ltb q.end a) (Some (Whole r)) (grant_part r (partial_at m ms q a))
 
--- what a piece gets of the register that was chosen
+-- what a piece gets of a register at its position
 unfoldable pub grant_at : Mode → List ℕ → Piece → ℕ → Pos → Option Grant
 grant_at m ms q r Blocked = None
 grant_at m ms q r (At a) = grant_until m ms q r a
 grant_at m ms q r Never = Some (Whole r)
 
+-- .. of the register that was chosen
 unfoldable pub grant_of : Mode → List ℕ → Piece → Choice → Option Grant
 grant_of m ms q None = None
 grant_of m ms q (Some e) = grant_at m ms q e.register e.pos

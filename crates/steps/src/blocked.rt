@@ -25,7 +25,7 @@ struct NumberedClass {
     class: Class,
 }
 
-// Block positions by register, held by class (document 01 names the outer array): blocked, or the first fragment start, or never.
+// Block positions by register, held by class: blocked, or the first fragment start, or never.
 fn block_row(
     tracker: Tracker,
     tables: &Tables,

@@ -70,14 +70,8 @@ pub fn interval_in(w0: u32, w1: u32, w2: u32, w3: u32) -> Interval
         spare: w0 % 67108864,
         start: (w1 / 65536 % 65536) as u16,
         end: (w1 % 65536) as u16,
-        mentions: Range {
-            index: (w2 / 65536 % 65536) as u16,
-            count: (w2 % 65536) as u16,
-        },
-        safepoints: Range {
-            index: (w3 / 65536 % 65536) as u16,
-            count: (w3 % 65536) as u16,
-        },
+        mentions: range_in(w2),
+        safepoints: range_in(w3),
     }
 }
 

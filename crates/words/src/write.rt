@@ -1,4 +1,4 @@
-// Words written: the entries of each table packed, most significant field first. `read` gives them back (proofs/Packed).
+// Words written: the entries of each table packed, most significant field first. `read` gives them back (proofs/Packed); each writer has a name of its own, as its reader has.
 ghost use Rattle.std.specs.Prelude.{◌≡◌, ℕ, ◌+◌, ◌*◌, ◌<◌, ◌≤◌};
 ghost use Rattle.words.specs.Packed.{ClassFits, IntervalFits, MentionFits, RecordFits, class_word, range_word, fragment_word, kind_word, interval_row, mention_word, record_row};
 

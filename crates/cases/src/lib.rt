@@ -1,4 +1,4 @@
-// Tables as text: a reader of cases, and writers of numbers. Whatever the bytes are, what is read lies inside the text and inside the lent tables, and the reader moves on.
+// Tables as text: a reader of cases. Whatever the bytes are, what is read lies inside the text and inside the lent tables, and the reader moves on.
 //
 //     case NAME
 //     opts STRATEGY PARTIAL NEAR_END        decimal; the flags 0 or 1
@@ -19,7 +19,6 @@ mod numbers;
 pub mod reader;
 mod scan;
 mod told;
-pub mod write;
 
 // Where a reader stands: at a byte, on a line. Lines are counted from 1.
 #[derive(Clone, Copy, Debug, PartialEq, Eq)]

@@ -12,7 +12,7 @@ use words::{Interval, read};
 fn extent_good(limit: u32, classes: usize, i: Interval) -> bool
     ensures { result ≡ extent_good limit classes i }
 {
-    i.spare == 0 && (i.class as usize) < classes && i.start <= i.end && (i.end as u32) < limit
+    (i.spare == 0) & ((i.class as usize) < classes) & (i.start <= i.end) & ((i.end as u32) < limit)
 }
 
 fn interval_good(tables: &Tables, v: usize) -> bool
@@ -22,8 +22,8 @@ fn interval_good(tables: &Tables, v: usize) -> bool
     let n = read::interval_count(tables.intervals);
     let at = |k| read::interval_at(tables.intervals, k);
     extent_good(2 * tables.instructions, tables.classes.len(), at(v))
-        && tests::range_good(|k| at(k).mentions, n, tables.mentions.len(), v)
-        && tests::range_good(|k| at(k).safepoints, n, tables.safepoints.len(), v)
+        & tests::range_good(|k| at(k).mentions, n, tables.mentions.len(), v)
+        & tests::range_good(|k| at(k).safepoints, n, tables.safepoints.len(), v)
 }
 
 pub(crate) fn bad_interval(tables: &Tables) -> Option<u16>

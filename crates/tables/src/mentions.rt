@@ -15,8 +15,8 @@ fn points_inside(a: u16, e: u16, m: Mention) -> bool
     ensures { result ≡ every (within a e) (points_in m) }
 {
     let p = 2 * (m.instruction as u64);
-    (!(m.uses || m.mods) || tests::is_within(a, e, p))
-        && (!(m.mods || m.defs) || tests::is_within(a, e, p + 1))
+    (!(m.uses | m.mods) | tests::is_within(a, e, p))
+        & (!(m.mods | m.defs) | tests::is_within(a, e, p + 1))
 }
 
 fn mention_good(tables: &Tables, i: Interval, j: usize) -> bool
@@ -24,10 +24,10 @@ fn mention_good(tables: &Tables, i: Interval, j: usize) -> bool
     ensures { result ≡ mention_good (tables_of tables.now) i j }
 {
     let m = read::mention_at(tables.mentions, j);
-    m.spare == 0
-        && (m.uses || m.mods || m.defs)
-        && points_inside(i.start, i.end, m)
-        && tests::ascends(
+    (m.spare == 0)
+        & (m.uses | m.mods | m.defs)
+        & points_inside(i.start, i.end, m)
+        & tests::ascends(
             |k| read::mention_at(tables.mentions, k).instruction as u32,
             i.mentions,
             j,

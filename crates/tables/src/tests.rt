@@ -1,4 +1,4 @@
-// The tests that several checks share.
+// The tests that several checks share. Tests of one entry are joined by `&` and `|`, as in the checks of intervals and mentions: with `&&` and `||` each is a branch, and the checks took up to half as long again.
 ghost use Rattle.std.specs.Prelude.{◌≡◌, ℕ, ◌<◌, ◌≤◌};
 ghost use Rattle.words.specs.Points.{within};
 ghost use Rattle.rules.specs.Sound.{ascends, range_end, range_good, leftovers};
@@ -33,7 +33,7 @@ pub(crate) fn range_good<F: Fn(usize) -> Range>(range_at: F, n: usize, len: usiz
     let range = range_at(k);
     let before = if k == 0 { 0 } else { range_at(k - 1).end() };
     let end = range.end();
-    range.index as usize == before && end <= len && (k + 1 < n || end == len)
+    (range.index as usize == before) & (end <= len) & ((k + 1 < n) | (end == len))
 }
 
 // Entry j of range r is above the one before it.

@@ -238,3 +238,10 @@ module _ (ws : List ℕ) (n : ℕ) (is sl ow : List ℕ) (total : ℕ) where
   pub rule6_of : (r : Option ℕ) (b : Bool) → PutBy ws n n is sl ow r → b ≡ option_eq eqb r (Some total) → Decides6 ws n is total b
   rule6_of None b p e = rw e (decides_6 ws n is total false (says_false (p total)))
   rule6_of (Some top) b p e = rw e (decides_6 ws n is total (eqb top total) (says_eq top total (good top p) (other top p)))
+
+  -- the same where they are told apart
+  pub rule6_broken : {r : Option ℕ} → PutBy ws n n is sl ow r → r ≡ None → Decides6 ws n is total false
+  rule6_broken {r} p q = rule6_of r false p (rw q refl)
+
+  pub rule6_top : {r : Option ℕ} (top : ℕ) → PutBy ws n n is sl ow r → r ≡ Some top → Decides6 ws n is total (eqb top total)
+  rule6_top {r} top p q = rule6_of r (eqb top total) p (rw q refl)

@@ -93,5 +93,8 @@ pub fn rule6(seats: Seats, owner: &mut [u16], total: u32) -> bool
     ensures { Decides6 seats.entry.records.words.now seats.entry.records.count seats.entry.intervals.now total result }
 {
     let mut slots = [0u32; MOST_INTERVALS];
-    settled(seats, &mut slots, owner) == Some(total)
+    let Some(top) = settled(seats, &mut slots, owner) else {
+        return false;
+    };
+    top == total
 }

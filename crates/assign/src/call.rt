@@ -60,7 +60,9 @@ pub fn assign(
 {
     let strategy = Strategy::try_from(options.strategy)?;
     let cap = entry::capacity_of(res);
-    entry::check(tables, cap, work.len())?;
+    if let Err(refusal) = entry::check(tables, cap, work.len()) {
+        return Err(refusal);
+    }
     let mode = Mode {
         strategy,
         partial_split: options.partial_split,

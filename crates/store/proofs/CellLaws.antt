@@ -42,6 +42,10 @@ module _ (cap : ℕ) (ws : List ℕ) where
   unfolding cells
   length_pieces = length_tab _ _
 
+  pub length_heap : length (cells cap ws).heap ≡ cap
+  unfolding cells
+  length_heap = length_tab _ _
+
   pub length_homes : length (cells cap ws).homes ≡ cap
   unfolding cells
   length_homes = length_tab _ _

@@ -206,6 +206,20 @@ module _ (cap : ℕ) (ws ws' : List ℕ) (c : Counts) where
       is : state_of cap ws' (with_total total c) ≡ with_homes (set (state_of cap ws c).homes v (Some t)) total (state_of cap ws c)
       is = unfold state_of in ap (λ (y : Cells). state_in y (with_total total c)) b.is ∙ rw (take-set-lt c.intervals (cells cap ws).homes v (Some t) h)
 
+-- one state function after another
+pub after_then : (cap : ℕ) (ws ws₁ ws₂ : List ℕ) (c d e : Counts) (s t : State) (m q a m' q' a' : ℕ) → After cap ws ws₁ c d s m q a → After cap ws₁ ws₂ d e t m' q' a'
+    → After cap ws ws₂ c e t m' q' a'
+after_then cap ws ws₁ ws₂ c d e s t m q a m' q' a' f g =
+    record {
+      is = g.is;
+      ready = g.ready;
+      records = g.records;
+      queued = g.queued;
+      active = g.active;
+      intervals = g.intervals ∙ f.intervals;
+      long = g.long ∙ f.long;
+    }
+
 -- a size is a shifted bit
 pub size_shifted : (l : ℕ) → l < 4 → Size l (1 * 2 ^ l % 2 ^ 32)
 size_shifted zero h = record { is = omega arith; most = omega arith }

@@ -90,13 +90,13 @@ enum Damage {
 impl fmt::Display for Damage {
     fn fmt<W: fmt::Write>(&self, f: &mut fmt::Formatter<W>) -> fmt::Result {
         f.write_str(match self {
-            Damage::Nothing => "checked",
-            Damage::LastDropped => "last record dropped",
-            Damage::TotalLower => "total one lower",
-            Damage::NoRecord => "no record",
-            Damage::WordsBehind => "other words behind",
-            Damage::FirstDoubled => "first record doubled",
-            Damage::LastBroken => "last record broken",
+            Damage::Nothing => "  checked",
+            Damage::LastDropped => "  last record dropped",
+            Damage::TotalLower => "  total one lower",
+            Damage::NoRecord => "  no record",
+            Damage::WordsBehind => "  other words behind",
+            Damage::FirstDoubled => "  first record doubled",
+            Damage::LastBroken => "  last record broken",
         })
     }
 }
@@ -167,7 +167,7 @@ pub(crate) fn copies(
 ) -> io::Result<()> {
     for damage in DAMAGES {
         let reply = judged(damage, tables, words, count, total);
-        println!(rt; "  {damage}:{}", Told(reply))?;
+        println!(rt; "{damage}:{}", Told(reply))?;
     }
     Ok(())
 }

@@ -3,7 +3,7 @@
 // A line shows the digest of the whole result area, which is filled with 77777777 before. Where asked for, the result is then checked, and damaged.
 ghost use Rattle.std.specs.Prelude.{◌≤◌};
 
-use crate::print::{Told, digest};
+use crate::print::{Told, Words, digest};
 use crate::{damage, fill};
 use rules::{Options, Tables};
 use std::io;
@@ -41,7 +41,7 @@ fn called_in(
     work: &mut [u32],
 ) -> io::Result<()> {
     let reply = temgurisk::temgurisk_assign(OPTIONS, tables, res, work);
-    println!(rt; "{label}:{} | digest {:08x}", Told(reply), digest(res))?;
+    println!(rt; "{label}:{} | digest{}", Told(reply), Words(&[digest(res)]))?;
     match then {
         Then::Stop => Ok(()),
         Then::Damage => damage::copies(rt, tables, res, reply.count, reply.total),

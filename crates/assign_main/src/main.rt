@@ -24,8 +24,8 @@ fn shown(rt: &impl Print, text: &[u8]) -> std::io::Result<()> {
 }
 
 // The status is 0 also where a line cannot be written.
-fn main(rt: HostRuntime) {
+fn main() {
     let mut space = io::large_buffer();
     let n = io::read_full(0, &mut space);
-    let _ = shown(&rt, &space[..n]);
+    let _ = shown(&print::Out, &space[..n]);
 }

@@ -40,7 +40,7 @@ fn called(
     rt.write_all(name)?;
     print!(rt; ":{} |{}", Told(reply), Words(res))?;
     if DONE < reply.number && reply.number <= LAST_AT_ENTRY {
-        print!(rt; " | work {before:08x} {:08x}", digest(work))?;
+        print!(rt; " | work{}", Words(&[before, digest(work)]))?;
     }
     println!(rt; "")
 }

@@ -1,6 +1,8 @@
 // Tables as text on standard input, answers on standard output. `temgurisk_run` alone prints how to use it; crates/cases/src/lib.rt has the form of a case.
 #![tactic(auto)]
 
+ghost use Rattle.std.specs.Prelude.{◌≤◌, length};
+
 use answers::{STDERR_FILENO, Way};
 use std::env::{Env, FillError};
 
@@ -40,7 +42,9 @@ fn print_usage() {
 }
 
 // The argument, in the lent bytes. One that is missing or too long is an empty word.
-fn arg<'w, R: Env>(rt: &R, i: usize, word: &'w mut [u8; WORD_BYTES]) -> &'w [u8] {
+fn arg<'w, R: Env>(rt: &R, i: usize, word: &'w mut [u8; WORD_BYTES]) -> &'w [u8]
+    ensures { length result.now ≤ 16 }
+{
     match rt.arg(i, word) {
         Ok(n) => &word[..n],
         Err(_) => &[],

@@ -57,7 +57,9 @@ fn first_safepoint(tables: &Tables, i: Interval) -> Option<u16>
     ensures { result ≡ safepoint_find (tables_of tables.now) i }
 {
     let indices = tests::indices(i.safepoints);
-    walk::first_bad(indices, |j| safepoint_good(tables, i, j))
+    let place = walk::first_bad(indices, |j| safepoint_good(tables, i, j))?;
+    // the place is its own index
+    Some(place)
 }
 
 pub(crate) fn bad_safepoint(tables: &Tables) -> Option<u16>

@@ -1,4 +1,4 @@
-// The tests that several checks share. Tests of one entry are joined by `&` and `|`, as in the checks of intervals and mentions: with `&&` and `||` each is a branch, and the checks took up to half as long again.
+// The tests that several checks share. `range_good`, as the tests of an interval or a mention, joins by `&` and `|`: with `&&` and `||` each is a branch, and the checks took up to half as long again. `ascends` needs its `||`.
 ghost use Rattle.std.specs.Prelude.{◌≡◌, ℕ, ◌<◌, ◌≤◌};
 ghost use Rattle.words.specs.Points.{within};
 ghost use Rattle.rules.specs.Sound.{ascends, range_end, range_good, leftovers};

@@ -15,7 +15,7 @@ use Rattle.words.specs.Packed.{mention_in}
 use Rattle.rules.specs.Uses.{at_use, at_def, points_in, next_use, last_use}
 use Rattle.rules.specs.Split.{any_below}
 use Rattle.uses.specs.Mentions.{Numbered, dot, stays_below}
-use Rattle.uses.proofs.PointLaws.{Each, next_append, last_append}
+use Rattle.uses.proofs.PointLaws.{Each, each_map, points_at, none_until, next_append, last_append}
 
 dot_below : (b : Bool) (x n : ℕ) → x < n → Each (λ y. y < n) (dot b x)
 dot_below true x n h = (h, tt)
@@ -53,6 +53,10 @@ module _ (w i p x y : ℕ) (u d : Bool) (n : Numbered w i) where
   pub last_is_use : (t : Option ℕ) → y ≡ def_point i → d ≡ at_def (mention_in w) → None ≡ last_use p (dot d y)
       → x ≡ use_point i → u ≡ at_use (mention_in w) → t ≡ last_use p (dot u x) → t ≡ last_use p (points_in (mention_in w))
   last_is_use t b f g a e h = h ∙ sym (last_both w i p x y u d n a b e f ∙ rw (← g))
+
+-- a mention whose Use point is after p has no last use
+pub last_is_after : (w i p x : ℕ) → Numbered w i → x ≡ use_point i → p < x → None ≡ last_use p (points_in (mention_in w))
+last_is_after w i p x n e h = sym (none_until p (points_in (mention_in w)) (each_map _ _ (λ y q. omega (arith, n.is)) (points_in (mention_in w)) (points_at (mention_in w))))
 
 or_false : (b : Bool) → b || false ≡ b
 or_false true = refl

@@ -166,6 +166,12 @@ not_below p (x ∷ xs) e = go (ltb x p) refl e (λ f. not_below p xs f)
     go true t f more = let z : ◌≡◌ {A = ℕ} 0 1 = cc in absurd (omega arith)
     go false t f more = (ltb-false x p t, more f)
 
+-- all points are after p: none is the last use
+pub none_until : (p : ℕ) (xs : List ℕ) → Each (λ x. p < x) xs → last_use p xs ≡ None
+unfolding last_use
+none_until p [] a = refl
+none_until p (x ∷ xs) a = simp (lt-leb x p a.0, none_until p xs a.1)
+
 -- the points of a mention lie at its instruction
 pub points_at : (m : Mention) → Each (λ x. (use_point m.instruction ≤ x) × (x ≤ def_point m.instruction)) (points_in m)
 points_at m = go (at_use m) (at_def m)

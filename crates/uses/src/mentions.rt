@@ -46,7 +46,7 @@ fn point_until(there: bool, x: u16, p: u16) -> Option<u16>
 }
 
 // The first point of a mention at or after p: the Use point, else the Def point. By `match` the Def point is asked for only where there is no Use point;
-// with `or` the walk took longer. Next and last mirror one another: one function of both would test the direction at each step, and be no plainer.
+// with `or` the walk took longer. Next and last mirror one another, but for the early answer of last: one function of both would test the direction at each step, and be no plainer.
 fn next_in(w: u32, p: u16) -> Option<u16>
     ensures { result ≡ next_use p (points_in (mention_in w)) }
 {
@@ -57,14 +57,18 @@ fn next_in(w: u32, p: u16) -> Option<u16>
     }
 }
 
-// The last point of a mention at or before p: the Def point, else the Use point.
+// The last point of a mention at or before p: the Def point, else the Use point. A walk from the end passes those whose Use point is after p by one test.
 fn last_in(w: u32, p: u16) -> Option<u16>
     ensures { result ≡ last_use p (points_in (mention_in w)) }
 {
     let i = instruction_in(w);
+    let use_at = points::use_point(i);
+    if p < use_at {
+        return None;
+    }
     match point_until(at_def(w), points::def_point(i), p) {
         Some(x) => Some(x),
-        None => point_until(at_use(w), points::use_point(i), p),
+        None => point_until(at_use(w), use_at, p),
     }
 }
 

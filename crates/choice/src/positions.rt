@@ -1,5 +1,6 @@
 // The furthest register of a row. Positions are in the order that `rules` derives for them: below the points blocked, above them never.
 ghost use Rattle.std.specs.Prelude.{◌≡◌, ℕ, ◌+◌, ◌<◌, ◌≤◌, length, None};
+ghost use Rattle.rules.specs.Positions.{below};
 ghost use Rattle.rules.specs.Steps.{furthest, pos_of};
 ghost use Rattle.choice.specs.Row.{better, entry_at, furthest_entry, is_never, pos_in};
 
@@ -13,11 +14,22 @@ fn pos_of(best: Option<RegPos>) -> Pos
     best.map_or(Pos::Blocked, |e| e.pos)
 }
 
+// `p` lies above the best so far; where there is none, it is not blocked.
+#[tactic(auto, using(rules::proofs::Positions::less_below))]
+fn is_above(p: Pos, best: Option<RegPos>) -> bool
+    ensures { result ≡ below (pos_of best) p }
+{
+    match best {
+        None => Pos::Blocked < p,
+        Some(b) => b.pos < p,
+    }
+}
+
 // The register of `e`, where its position lies above the best so far and it is not scratch.
 fn better_of(best: Option<RegPos>, e: RegPos, scratch: usize) -> Option<RegPos>
     ensures { result ≡ better scratch best e.register e.pos }
 {
-    if e.register as usize != scratch && pos_of(best) < e.pos {
+    if e.register as usize != scratch && is_above(e.pos, best) {
         Some(e)
     } else {
         best

@@ -60,6 +60,7 @@ pub fn assign(
 {
     let strategy = Strategy::try_from(options.strategy)?;
     let cap = entry::capacity_of(res);
+    // not by `?`: so a must-fail edit can turn the answer alone, and is refused for what it answers
     if let Err(refusal) = entry::check(tables, cap, work.len()) {
         return Err(refusal);
     }

@@ -93,6 +93,7 @@ pub fn rule6(seats: Seats, owner: &mut [u16], total: u32) -> bool
     ensures { Decides6 seats.entry.records.words.now seats.entry.records.count seats.entry.intervals.now total result }
 {
     let mut slots = [0u32; MOST_INTERVALS];
+    // the top is told apart from none, not compared as an `Option`: so a must-fail edit can turn the comparison alone
     let Some(top) = settled(seats, &mut slots, owner) else {
         return false;
     };

@@ -58,7 +58,7 @@ fn first_safepoint(tables: &Tables, i: Interval) -> Option<u16>
 {
     let indices = tests::indices(i.safepoints);
     let place = walk::first_bad(indices, |j| safepoint_good(tables, i, j))?;
-    // the place is its own index
+    // the place is its own index; it is taken out, so that a must-fail edit can turn what is answered alone
     Some(place)
 }
 

@@ -1,6 +1,6 @@
 -- `tables::safepoints::first_safepoint` meets its contract: the walk of the interval's range.
 -- Assumes nothing.
-use Rattle.std.proofs.Common.{rules, ◌∙◌, sym}
+use Rattle.std.proofs.Common.{rules}
 use Rattle.rules.specs.Lent.{tables_of}
 use Rattle.rules.specs.Sound.{safepoint_good}
 use Rattle.tables.proofs.WalkLaws.{find_in}
